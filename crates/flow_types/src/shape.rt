@@ -1,0 +1,67 @@
+ghost use Rattle.std.specs.Prelude.{◌≡◌, ◌≤◌, ◌↔◌, IsSome, IfSome};
+ghost use Rattle.flow_types.specs.Size.{IsShape};
+ghost use Rattle.flow_types.specs.declared.shape.TheConstants.{FEWEST_NODES, MOST_NODES, FEWEST_BLOCKS, MOST_BLOCKS};
+
+use std::marker::Model;
+
+/// The least number of nodes of a cluster.
+pub const FEWEST_NODES: u16 = 2;
+/// The greatest number of nodes of a cluster.
+pub const MOST_NODES: u16 = 16;
+/// The least number of blocks of a table.
+pub const FEWEST_BLOCKS: u16 = 1;
+/// The greatest number of blocks of a table.
+pub const MOST_BLOCKS: u16 = 256;
+
+/// How many nodes a cluster has, and how many blocks its table.
+#[derive(Clone, Copy, Debug, PartialEq, Eq, Hash)]
+pub struct Shape {
+    nodes: u16,
+    blocks: u16,
+}
+
+impl Model for Shape {
+    ghost use Rattle.flow_types.specs.Size.{Size, IsShape};
+
+    ghost Value = { Size };
+
+    ghost view = { λ s. record { nodes = s.nodes; blocks = s.blocks } };
+
+    ghost invariant = { λ s. IsShape s.nodes s.blocks };
+
+    ghost inverse = { λ s. record { nodes = s.nodes; blocks = s.blocks } };
+}
+
+impl Shape {
+    /// The shape of so many nodes and blocks, or `None` where nodes isn't in 2..=16 or blocks isn't in 1..=256.
+    pub fn new(nodes: u16, blocks: u16) -> Option<Shape>
+        ensures valid { IsSome result ↔ IsShape nodes blocks }
+        ensures value { IfSome result (λ shape. shape ≡ record { nodes = nodes; blocks = blocks }) }
+    {
+        if (FEWEST_NODES..=MOST_NODES).contains(&nodes)
+            && (FEWEST_BLOCKS..=MOST_BLOCKS).contains(&blocks)
+        {
+            Some(Shape { nodes, blocks })
+        } else {
+            None
+        }
+    }
+
+    /// The number of nodes, 2..=16. Nodes are numbered from 0.
+    pub fn nodes(&self) -> u16
+        ensures value { result ≡ self.now.nodes }
+        ensures least { FEWEST_NODES ≤ result }
+        ensures most { result ≤ MOST_NODES }
+    {
+        self.nodes
+    }
+
+    /// The number of blocks, 1..=256. Blocks are numbered from 0.
+    pub fn blocks(&self) -> u16
+        ensures value { result ≡ self.now.blocks }
+        ensures least { FEWEST_BLOCKS ≤ result }
+        ensures most { result ≤ MOST_BLOCKS }
+    {
+        self.blocks
+    }
+}

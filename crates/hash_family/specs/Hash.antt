@@ -1,0 +1,34 @@
+-- The hash functions of the table, over numbers. All sums and products are taken modulo 2^64 unless another modulus
+-- is named.
+use Rattle.std.specs.Prelude.{ℕ, ◌+◌, ◌*◌, ◌/◌, ◌%◌, ◌^◌, bit_or, bit_xor}
+use Rattle.flow_types.specs.declared.key.FlowKey.{FlowKey}
+use Rattle.flow_types.specs.Key.{number}
+use Rattle.hash_family.specs.declared.bucket.Place.{Place}
+use Rattle.hash_family.specs.declared.pairing.HashPair.{HashPair}
+use Rattle.hash_family.specs.declared.mixing.TheConstants.{SEED_STEP, FIRST_FACTOR, SECOND_FACTOR}
+
+-- one step of mixing: the upper bits are folded down, and a product spreads them
+unfoldable pub stir : ℕ → ℕ → ℕ → ℕ
+stir bits factor z = bit_xor z (z / 2 ^ bits) * factor % 2 ^ 64
+
+unfoldable pub mix : ℕ → ℕ
+mix z = let stirred = stir 27 SECOND_FACTOR (stir 30 FIRST_FACTOR z) in bit_xor stirred (stirred / 2 ^ 31)
+
+-- where the j-th base starts
+abbrev pub seed : ℕ → ℕ
+seed j = j * SEED_STEP % 2 ^ 64
+
+-- the j-th base of the key of this number: its lower 64 bits under the seed, then its upper 40
+unfoldable pub base : ℕ → ℕ → ℕ
+base j key = mix ((mix (bit_xor (key % 2 ^ 64) (seed j)) + key / 2 ^ 64) % 2 ^ 64)
+
+-- the block and bucket of a key, where there are so many blocks
+unfoldable pub place : ℕ → FlowKey → Place
+place blocks key = record { block = base 1 (number key) / 2 ^ 32 % blocks; bucket = base 1 (number key) % 256 }
+
+unfoldable pub pair : FlowKey → HashPair
+pair key = record { g1 = base 2 (number key) / 2 ^ 32; g2 = bit_or (base 3 (number key) / 2 ^ 32) 1 }
+
+-- where a key with this pair stands under the member of this index: the three upper bits of its hash
+unfoldable pub position : HashPair → ℕ → ℕ
+position pair index = (pair.g1 + index * pair.g2) % 2 ^ 32 / 2 ^ 29
