@@ -1,3 +1,5 @@
 pub mod Decimals
+pub mod Octets
 pub mod Parts
 pub mod Reading
+pub mod ValueBits

@@ -1,6 +1,6 @@
-ghost use Rattle.std.specs.Prelude.{◌≡◌, ◌≤◌, ◌↔◌, IsSome, IfSome};
-ghost use Rattle.flow_types.specs.Size.{IsShape};
-ghost use Rattle.flow_types.specs.declared.shape.TheConstants.{FEWEST_NODES, MOST_NODES, FEWEST_BLOCKS, MOST_BLOCKS};
+ghost use Rattle.std.specs.Prelude.{◌≡◌, ◌<◌, ◌≤◌, ◌%◌, ◌↔◌, IsSome, IfSome};
+ghost use Rattle.flow_types.specs.Size.{IsShape, AreValueBits, value_bits};
+ghost use Rattle.flow_types.specs.declared.shape.TheConstants.{FEWEST_NODES, MOST_NODES, FEWEST_BLOCKS, MOST_BLOCKS, MOST_VALUE_BITS};
 
 use std::marker::Model;
 
@@ -12,6 +12,9 @@ pub const MOST_NODES: u16 = 16;
 pub const FEWEST_BLOCKS: u16 = 1;
 /// The greatest number of blocks of a table.
 pub const MOST_BLOCKS: u16 = 256;
+
+/// The greatest number of value bits of a shape.
+pub const MOST_VALUE_BITS: u8 = 4;
 
 /// How many nodes a cluster has, and how many blocks its table.
 #[derive(Clone, Copy, Debug, PartialEq, Eq, Hash)]
@@ -63,5 +66,27 @@ impl Shape {
         ensures most { result ≤ MOST_BLOCKS }
     {
         self.blocks
+    }
+    /// The number of value bits, 1..=4: the least of at least 1 that tell the nodes apart.
+    pub fn value_bits(&self) -> u8
+        ensures value { result ≡ value_bits self.now.nodes }
+        ensures fewest { AreValueBits self.now.nodes result }
+        ensures most { result ≤ MOST_VALUE_BITS }
+    {
+        match self.nodes {
+            0..=2 => 1,
+            3..=4 => 2,
+            5..=8 => 3,
+            _ => MOST_VALUE_BITS,
+        }
+    }
+
+    /// The node that owns a block: the blocks are dealt to the nodes in turn.
+    pub fn owner(&self, block: u16) -> u8
+        requires { block < self.now.blocks }
+        ensures value { result ≡ block % self.now.nodes }
+        ensures below { result < self.now.nodes }
+    {
+        (block % self.nodes) as u8
     }
 }
