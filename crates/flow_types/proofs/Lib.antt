@@ -1,4 +1,6 @@
+pub mod Addresses
 pub mod Decimals
+pub mod Numerals
 pub mod Octets
 pub mod Parts
 pub mod Reading

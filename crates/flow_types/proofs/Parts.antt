@@ -42,7 +42,7 @@ pub three_parts : (text a b rest more : List ℕ) → slice_split is_dot text �
 unfolding address_value
 three_parts text a b rest more h i j = ap address_of_octets (h ∙ ap (λ parts. a ∷ parts) (i ∙ ap (λ parts. b ∷ parts) j))
 
-no_dot_digit : (c : ℕ) → IsInRange 48 57 c → is_dot c ≡ false
+pub no_dot_digit : (c : ℕ) → IsInRange 48 57 c → is_dot c ≡ false
 no_dot_digit c h = grind (arith, nat_tests)
 
 -- digits have no dot among them

@@ -1,5 +1,5 @@
 -- How many value bits so many nodes need.
-use Rattle.std.proofs.Common.{◌≡◌, ℕ, ◌-◌, ◌^◌, ◌<◌, ◌≤◌, arith}
+use Rattle.std.proofs.Common.{ℕ, ◌-◌, ◌^◌, ◌<◌, ◌≤◌, arith}
 use Rattle.std.proofs.Math.Pow.{pow_mono}
 use Rattle.flow_types.specs.Size.{AreValueBits}
 
@@ -14,5 +14,5 @@ pub are_value_bits : (nodes bits : ℕ) → nodes ≤ 2 ^ bits → 2 ^ (bits - 1
 are_value_bits nodes bits enough many some = record {
   at_least_one = some;
   enough = enough;
-  no_fewer = λ fewer _ few. no_fewer nodes bits fewer many few
+  no_fewer = λ fewer _ few. no_fewer nodes bits fewer many few;
 }

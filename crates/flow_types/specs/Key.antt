@@ -14,7 +14,7 @@ key_of n = record {
   destination = n / 2 ^ 40 % 2 ^ 32;
   source_port = n / 2 ^ 24 % 2 ^ 16;
   destination_port = n / 2 ^ 8 % 2 ^ 16;
-  protocol = n % 2 ^ 8
+  protocol = n % 2 ^ 8;
 }
 
 -- the 13 octets of a key's number, the greatest first

@@ -54,11 +54,25 @@ impl FlowKey {
     pub fn to_bytes(&self) -> [u8; 13]
         ensures { result ≡ key.octets self.now }
     {
-        let [_, _, _, s0, s1, s2, s3, d0, d1, d2, d3, sp0, sp1, dp0, dp1, protocol] =
-            self.number().to_be_bytes();
-        [
-            s0, s1, s2, s3, d0, d1, d2, d3, sp0, sp1, dp0, dp1, protocol,
-        ]
+        let [
+            _,
+            _,
+            _,
+            s0,
+            s1,
+            s2,
+            s3,
+            d0,
+            d1,
+            d2,
+            d3,
+            sp0,
+            sp1,
+            dp0,
+            dp1,
+            protocol,
+        ] = self.number().to_be_bytes();
+        [s0, s1, s2, s3, d0, d1, d2, d3, sp0, sp1, dp0, dp1, protocol]
     }
 
     /// The key of these octets, which are its number with the greatest first.

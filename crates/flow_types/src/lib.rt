@@ -6,6 +6,7 @@
 
 mod address;
 mod key;
+pub mod laws;
 mod numeral;
 mod record;
 mod shape;
