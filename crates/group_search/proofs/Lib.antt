@@ -1,0 +1,7 @@
+pub mod Bits
+pub mod Scan
+pub mod FirstServing
+pub mod Distinct
+pub mod Rising
+pub mod Values
+pub mod Chosen

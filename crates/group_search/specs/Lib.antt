@@ -1,0 +1,6 @@
+pub mod Serving
+pub mod Rows
+pub mod Served
+pub mod ServedFields
+pub mod Canon
+pub mod Decoding

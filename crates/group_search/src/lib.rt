@@ -1,0 +1,24 @@
+//! The mathematics of a group: which members of the hash family serve its keys, its canonical record, and its words.
+//!
+//! A contract sees a `Served` as the list of its pairs and `Rows` as the list of its rows. `specs/Serving.antt` says
+//! what serves, `specs/Canon.antt` which record a group has, `specs/Decoding.antt` what a record says of a key, and
+//! `specs/Words.antt` how a record is packed. No call takes memory.
+//! Proved: each call's exact answer; that a canonical record gives each of its keys its node, whatever the order of
+//! the entries. Only tested: nothing.
+#![tactic(auto)]
+
+mod choosing;
+mod entry;
+mod limits;
+mod record;
+mod rows;
+mod search;
+mod served;
+
+pub use choosing::{TooMany, canon, separable};
+pub use entry::{Entry, Pair};
+pub use limits::{FEWEST_ROWS, INDEXES, MOST_BITS, MOST_ENTRIES, MOST_ROWS, POSITIONS};
+pub use record::GroupRecord;
+pub use rows::{Row, Rows};
+pub use search::least;
+pub use served::Served;

@@ -1,0 +1,48 @@
+ghost use Rattle.std.specs.Prelude.{◌≡◌, ◌<◌, ◌↔◌, IsNone, IfSome};
+ghost use Rattle.group_search.specs.Serving.{IsLeast, NoneServes, array_serving, least_of};
+
+use crate::entry::{Entry, Pair};
+use hash_family::position;
+
+/// The least index that serves the entries at this bit of their nodes, with its array, or `None` where no index
+/// serves.
+///
+/// The bit is below 8. It tries one index after the other, 65,536 at most: at 16 entries about 600, at 24 about
+/// 50,000.
+pub fn least(entries: &[Entry], bit: u8) -> Option<Pair>
+    requires { bit < 8 }
+    ensures value { result ≡ least_of bit entries.now }
+    ensures least { IfSome result (IsLeast bit entries.now) }
+    ensures none { IsNone result ↔ NoneServes bit entries.now }
+{
+    'indexes: for index in 0..=u16::MAX {
+        if let Some(array) = array_at(entries, index, bit) {
+            return Some(Pair { index, array });
+        }
+    }
+    None
+}
+
+/// The array with which the index serves the entries at this bit, or `None` where none does.
+///
+/// Two masks have the positions of the entries with bit 1 and with bit 0. The index is left as soon as a position
+/// stands in both.
+fn array_at(entries: &[Entry], index: u16, bit: u8) -> Option<u8>
+    requires { bit < 8 }
+    ensures { result ≡ array_serving index bit entries.now }
+{
+    let mut ones = 0u8;
+    let mut zeros = 0u8;
+    'entries: for entry in entries {
+        let place = 1u8 << position(entry.pair, index);
+        if (entry.node >> bit) & 1 == 1 {
+            ones |= place;
+        } else {
+            zeros |= place;
+        }
+        if ones & zeros != 0 {
+            return None;
+        }
+    }
+    Some(ones)
+}
