@@ -5,3 +5,4 @@ pub mod Distinct
 pub mod Rising
 pub mod Values
 pub mod Chosen
+pub mod WordLemmas

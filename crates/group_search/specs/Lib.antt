@@ -4,3 +4,4 @@ pub mod Served
 pub mod ServedFields
 pub mod Canon
 pub mod Decoding
+pub mod Words

@@ -14,6 +14,7 @@ mod record;
 mod rows;
 mod search;
 mod served;
+mod words;
 
 pub use choosing::{TooMany, canon, separable};
 pub use entry::{Entry, Pair};
@@ -22,3 +23,4 @@ pub use record::GroupRecord;
 pub use rows::{Row, Rows};
 pub use search::least;
 pub use served::Served;
+pub use words::{Packed, pack, unpack};
