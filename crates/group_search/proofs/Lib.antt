@@ -6,3 +6,5 @@ pub mod Rising
 pub mod Values
 pub mod Chosen
 pub mod WordLemmas
+pub mod EachNode
+pub mod AnyOrder

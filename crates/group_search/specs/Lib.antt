@@ -5,3 +5,4 @@ pub mod ServedFields
 pub mod Canon
 pub mod Decoding
 pub mod Words
+pub mod Laws
