@@ -50,12 +50,12 @@ first_hit false at place array rest more h =
     ⊎_elim (λ here. absurd (false≢true (and_parts (at == place) false here).1)) more (or_cases ((at == place) && false) rest h)
 
 module _ (index bit place : ℕ) where
-  hit_of : (entries : List Entry) → bit_at (array_of index bit entries) place ≡ 1 → list_any (sets index place bit) entries ≡ true
+  pub hit_of : (entries : List Entry) → bit_at (array_of index bit entries) place ≡ 1 → list_any (sets index place bit) entries ≡ true
   unfolding array_of
   hit_of [] h = absurd (omega (arith, bit_at-zero place))
   hit_of (e ∷ entries) h = hit_first (bit_at e.node bit == 1) (position e.pair index) place (array_of index bit entries) _ (hit_of entries) h
 
-  of_hit : (entries : List Entry) → list_any (sets index place bit) entries ≡ true → bit_at (array_of index bit entries) place ≡ 1
+  pub of_hit : (entries : List Entry) → list_any (sets index place bit) entries ≡ true → bit_at (array_of index bit entries) place ≡ 1
   unfolding array_of
   of_hit [] h = absurd (false≢true h)
   of_hit (e ∷ entries) h = first_hit (bit_at e.node bit == 1) (position e.pair index) place (array_of index bit entries) _ (of_hit entries) h

@@ -5,3 +5,6 @@ pub mod Distinct
 pub mod Rising
 pub mod Values
 pub mod Chosen
+pub mod WordLemmas
+pub mod EachNode
+pub mod AnyOrder

@@ -45,11 +45,11 @@ Contains_cases-at : (row r : Row) (rows : List Row) (k : ℕ) → k < length (ro
 Contains_cases-at row r rows zero low same = inl same
 Contains_cases-at row r rows (suc k) low same = inr (k, omega arith, same)
 
-Contains_cases : (row r : Row) (rows : List Row) → Contains (row ∷ rows) r → (row ≡ r) ⊎ Contains rows r
+pub Contains_cases : (row r : Row) (rows : List Row) → Contains (row ∷ rows) r → (row ≡ r) ⊎ Contains rows r
 Contains_cases row r rows h = Contains_cases-at row r rows h.0 h.1 h.2
 
 -- a member of the rows after a first one has another key
-later_member : (row r : Row) (rows : List Row) → IsRising (row ∷ rows) → Contains rows r → key_number row < key_number r
+pub later_member : (row r : Row) (rows : List Row) → IsRising (row ∷ rows) → Contains rows r → key_number row < key_number r
 later_member row r rows rising h = All-contains (λ q. key_number row < key_number q) rows r (rising_head row rows rising) h
 
 -- of two rising lists with the same members the first rows are the same

@@ -4,3 +4,5 @@ pub mod Served
 pub mod ServedFields
 pub mod Canon
 pub mod Decoding
+pub mod Words
+pub mod Laws

@@ -9,16 +9,20 @@
 
 mod choosing;
 mod entry;
+mod laws;
 mod limits;
 mod record;
 mod rows;
 mod search;
 mod served;
+mod words;
 
 pub use choosing::{TooMany, canon, separable};
 pub use entry::{Entry, Pair};
+pub use laws::{canonical_gives_each_node, canonical_ignores_order};
 pub use limits::{FEWEST_ROWS, INDEXES, MOST_BITS, MOST_ENTRIES, MOST_ROWS, POSITIONS};
 pub use record::GroupRecord;
 pub use rows::{Row, Rows};
 pub use search::least;
 pub use served::Served;
+pub use words::{Packed, pack, unpack};
