@@ -11,6 +11,7 @@ use Rattle.hash_family.specs.declared.mixing.TheConstants.{SEED_STEP, FIRST_FACT
 unfoldable pub stir : ℕ → ℕ → ℕ → ℕ
 stir bits factor z = bit_xor z (z / 2 ^ bits) * factor % 2 ^ 64
 
+-- the finalizer of SplitMix64: two such steps, and one more fold
 unfoldable pub mix : ℕ → ℕ
 mix z = let stirred = stir 27 SECOND_FACTOR (stir 30 FIRST_FACTOR z) in bit_xor stirred (stirred / 2 ^ 31)
 
@@ -26,6 +27,7 @@ base j key = mix ((mix (bit_xor (key % 2 ^ 64) (seed j)) + key / 2 ^ 64) % 2 ^ 6
 unfoldable pub place : ℕ → FlowKey → Place
 place blocks key = record { block = base 1 (number key) / 2 ^ 32 % blocks; bucket = base 1 (number key) % 256 }
 
+-- the hash at index 0, and what each further index adds, an odd number
 unfoldable pub pair : FlowKey → HashPair
 pair key = record { g1 = base 2 (number key) / 2 ^ 32; g2 = bit_or (base 3 (number key) / 2 ^ 32) 1 }
 
