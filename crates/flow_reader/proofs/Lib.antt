@@ -1,0 +1,3 @@
+pub mod OpeningFacts
+pub mod KeyFacts
+pub mod FirstBadFacts

@@ -1,0 +1,4 @@
+pub mod Fields
+pub mod Opening
+pub mod Steps
+pub mod FirstBad
