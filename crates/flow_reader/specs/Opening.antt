@@ -1,0 +1,101 @@
+-- The rows up to `begin`: the shape of a cluster, and its flows.
+use Rattle.std.specs.Prelude.{◌≡◌, ℕ, ◌+◌, ◌==◌, ◌&&◌, nat_le, Bool, if◌then◌else◌, List, [], ◌∷◌, ◌++◌, length, map, Option, Some, None, Result, Ok, Err, codes}
+use Rattle.std.specs.List.{list_any}
+use Rattle.flow_types.specs.Size.{Size}
+use Rattle.flow_types.specs.declared.key.FlowKey.{FlowKey}
+use Rattle.flow_types.specs.declared.record.Flow.{Flow}
+use Rattle.flow_types.specs.declared.shape.TheConstants.{FEWEST_NODES, MOST_NODES, FEWEST_BLOCKS, MOST_BLOCKS}
+use Rattle.flow_types.specs.declared.why.BadRow.{BadRow}
+use Rattle.flow_types.specs.declared.why.Why.{Why}
+use Rattle.flow_types.specs.declared.why.Why.TheVariants as why
+use Rattle.csv_rows.specs.Rows.{Row, field_at}
+use Rattle.flow_reader.specs.Fields.{and_then, flow_of, is_kind, number_field}
+use Rattle.flow_reader.specs.declared.opening.Opening.{Opening}
+use Rattle.flow_reader.specs.declared.opening.RowRefused.{RowRefused}
+use Rattle.flow_reader.specs.declared.opening.RowRefused.TheVariants as refused
+
+-- what the fields of a row say, where it has so many
+abbrev pub with_fields : {A : Type 0} → ℕ → Row → Result A Why → Result A Why
+with_fields count row reading = if length row == count then reading else Err why.Fields
+
+-- the shape of so many nodes and blocks
+abbrev pub shape_with : ℕ → ℕ → Result Size Why
+shape_with nodes blocks =
+    if nat_le FEWEST_NODES nodes && nat_le nodes MOST_NODES && nat_le FEWEST_BLOCKS blocks && nat_le blocks MOST_BLOCKS
+    then Ok (record { nodes = nodes; blocks = blocks })
+    else Err why.Number
+
+-- what the fields of a `cluster` row say
+abbrev pub shape_fields : Row → Result Size Why
+shape_fields row =
+    and_then (number_field 65535 (field_at row 1)) (λ nodes.
+    and_then (number_field 65535 (field_at row 2)) (λ blocks.
+    shape_with nodes blocks))
+
+-- what the first row says
+unfoldable pub shape_of : Row → Result Size Why
+shape_of row = if is_kind (codes "cluster") row then with_fields 3 row (shape_fields row) else Err why.Kind
+
+-- a flow, where there is one
+abbrev pub some_flow : Result Flow Why → Result (Option Flow) Why
+some_flow (Ok flow) = Ok (Some flow)
+some_flow (Err reason) = Err reason
+
+-- what a later row says by itself: a flow, or by None that the flows end
+unfoldable pub later_row : ℕ → Row → Result (Option Flow) Why
+later_row nodes row =
+    if is_kind (codes "flow") row then with_fields 9 row (some_flow (flow_of nodes row))
+    else if is_kind (codes "begin") row then with_fields 1 row (Ok None)
+    else Err why.Kind
+
+-- whether two keys are the same
+abbrev pub same_key : FlowKey → FlowKey → Bool
+same_key a b =
+    (a.source == b.source) && ((a.destination == b.destination)
+    && ((a.source_port == b.source_port) && ((a.destination_port == b.destination_port) && (a.protocol == b.protocol))))
+
+abbrev pub keys_of : List Flow → List FlowKey
+keys_of flows = map (λ flow. flow.key) flows
+
+-- whether a flow of this key is among these
+abbrev pub has_key : FlowKey → List Flow → Bool
+has_key key flows = list_any (same_key key) (keys_of flows)
+
+-- what a row adds to the flows before it
+abbrev pub adds : List Flow → Option Flow → Result (Option Flow) Why
+adds flows None = Ok None
+adds flows (Some flow) = if has_key flow.key flows then Err why.Duplicate else Ok (Some flow)
+
+-- what a later row says after these flows
+abbrev pub row_after : ℕ → List Flow → Row → Result (Option Flow) Why
+row_after nodes flows row = and_then (later_row nodes row) (adds flows)
+
+abbrev pub bad_row : ℕ → Why → BadRow
+bad_row row reason = record { row = row; why = reason }
+
+-- what the rows say from a row on: `more` is what those after it say
+abbrev pub opening_next : (List Flow → ℕ → Result Opening BadRow) → Size → List Flow → ℕ → Result (Option Flow) Why → Result Opening BadRow
+opening_next more shape flows number (Err reason) = Err (bad_row number reason)
+opening_next more shape flows number (Ok None) = Ok (record { shape = shape; flows = flows; begin_row = number })
+opening_next more shape flows number (Ok (Some flow)) = more (flows ++ flow ∷ []) (number + 1)
+
+-- what the rows say from the row of this number on, after these flows
+unfoldable pub opening_from : Size → List Row → List Flow → ℕ → Result Opening BadRow
+opening_from shape [] flows number = Err (bad_row number why.NoBegin)
+opening_from shape (row ∷ rest) flows number =
+    opening_next (opening_from shape rest) shape flows number (row_after shape.nodes flows row)
+
+abbrev pub opening_after : List Row → Result Size Why → Result Opening BadRow
+opening_after rest (Ok shape) = opening_from shape rest [] 2
+opening_after rest (Err reason) = Err (bad_row 1 reason)
+
+-- the opening that the rows say, or the first bad row up to `begin`
+unfoldable pub opening_of : List Row → Result Opening BadRow
+opening_of [] = Err (bad_row 1 why.NoBegin)
+opening_of (row ∷ rest) = opening_after rest (shape_of row)
+
+-- the answer is this opening or this bad row, or want of memory
+abbrev pub Answers : Result Opening BadRow → Result Opening RowRefused → Type 0
+Answers said (Ok opening) = said ≡ Ok opening
+Answers said (Err (refused.Bad bad)) = said ≡ Err bad
+Answers said (Err refused.OutOfMemory) = Unit {0}

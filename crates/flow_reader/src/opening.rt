@@ -1,0 +1,68 @@
+ghost use Rattle.std.specs.Prelude.{◌≡◌};
+
+use flow_types::{BadRow, Flow, Shape};
+use out_of_memory::OutOfMemory;
+use std::marker::Model;
+
+/// The greatest number of octets of an input.
+pub const MOST_OCTETS: usize = 67_108_864;
+
+/// What the rows up to `begin` say.
+#[derive(Debug, Drop)]
+pub struct Opening {
+    /// The cluster's shape.
+    pub shape: Shape,
+    /// The flows, in the order of their rows. No two have the same key.
+    pub flows: Flows,
+    /// The number of the row `begin`, counted from 1.
+    pub begin_row: u32,
+}
+
+/// The flows of an opening. A contract sees them as a list.
+#[derive(Debug, Drop)]
+pub struct Flows {
+    flows: Vec<Flow>,
+}
+
+impl Model for Flows {
+    ghost use Rattle.std.specs.Prelude.{List};
+    ghost use Rattle.flow_types.specs.declared.record.Flow.{Flow};
+
+    ghost Value = { List Flow };
+
+    ghost view = { λ f. f.flows.items };
+}
+
+impl Flows {
+    pub(crate) fn from_vec(flows: Vec<Flow>) -> Flows
+        ensures { result ≡ flows.items }
+    {
+        Flows { flows }
+    }
+
+    /// The flows, in the order of their rows.
+    pub fn as_slice(&self) -> &[Flow]
+        ensures { result.now ≡ self.now }
+    {
+        self.flows.as_slice()
+    }
+}
+
+/// Why an input isn't read.
+#[derive(Clone, Copy, Debug, PartialEq, Eq)]
+pub enum RowRefused {
+    /// The first row that breaks a rule.
+    Bad(BadRow),
+    /// Memory that the call asked for was not there.
+    OutOfMemory,
+}
+
+impl From<OutOfMemory> for RowRefused {
+    ghost use Rattle.flow_reader.specs.declared.opening.RowRefused.TheVariants as refused;
+
+    ghost from_gives = { λ _ e. e ≡ refused.OutOfMemory };
+
+    fn from(_error: OutOfMemory) -> RowRefused {
+        RowRefused::OutOfMemory
+    }
+}

@@ -1,0 +1,95 @@
+ghost use Rattle.std.specs.Prelude.{◌≡◌, ◌+◌, ◌<◌, ◌≤◌, ◌^◌, length, OnOk};
+ghost use Rattle.csv_rows.specs.Reading.{IsReading, rows_left};
+ghost use Rattle.csv_rows.specs.Rows.{fields_of, rows};
+ghost use Rattle.flow_reader.specs.Opening.{Answers, bad_row, opening_from, opening_of, row_after};
+ghost use Rattle.flow_reader.specs.Steps.{BeginsAt, SaysShape, TakesIn};
+
+use crate::known::KnownFlows;
+use crate::opening::{MOST_OCTETS, Opening, RowRefused};
+use crate::row::{later_row, shape_of};
+use csv_rows::{ByteRecord, RowReader};
+use flow_types::{BadRow, Shape, Why};
+use std::alloc::Global;
+
+/// Reads the rows of the bytes up to `begin`.
+pub fn read_opening(alloc: Global, bytes: &[u8]) -> Result<Opening, RowRefused>
+    requires { length bytes.now ≤ MOST_OCTETS }
+    ensures answers { Answers (opening_of (rows bytes.now)) result }
+{
+    let mut reader = RowReader::new(alloc, bytes);
+    let mut row = ByteRecord::new(alloc);
+    let shape = read_shape(&mut reader, &mut row)?;
+    let mut known = KnownFlows::new(alloc);
+    let begin_row = read_flows(&mut reader, &mut row, shape, &mut known)?;
+    Ok(Opening {
+        shape,
+        flows: known.into_flows(),
+        begin_row,
+    })
+}
+
+fn refusal(row: u32, why: Why) -> RowRefused
+    ensures { result ≡ RowRefused.Bad (bad_row row why) }
+{
+    RowRefused::Bad(BadRow { row, why })
+}
+
+/// Reads the first row.
+fn read_shape(reader: &mut RowReader<'_>, row: &mut ByteRecord) -> Result<Shape, RowRefused>
+    requires { IsReading reader.old }
+    ensures reading { OnOk result (IsReading reader.new) }
+    ensures says { SaysShape (rows_left reader.old) (rows_left reader.new) result }
+    ensures fewer { OnOk result (length (rows_left reader.old) ≡ length (rows_left reader.new) + 1) }
+{
+    if !reader.next_row(row)? {
+        return Err(refusal(1, Why::NoBegin));
+    }
+    match shape_of(row) {
+        Ok(shape) => Ok(shape),
+        Err(why) => Err(refusal(1, why)),
+    }
+}
+
+/// Reads the rows after the first, and gives the number of the row `begin`.
+fn read_flows(
+    reader: &mut RowReader<'_>,
+    row: &mut ByteRecord,
+    shape: Shape,
+    known: &mut KnownFlows,
+) -> Result<u32, RowRefused>
+    requires reading { IsReading reader.old }
+    requires few { length (rows_left reader.old) + 2 < 2 ^ 32 }
+    ensures { BeginsAt shape (opening_from shape (rows_left reader.old) known.old 2) known.new result }
+{
+    let mut number = 2u32;
+    'rows: while reader.next_row(row)? {
+        match take_row(row, number, shape.nodes(), known) {
+            Ok(true) => number += 1,
+            Ok(false) => return Ok(number),
+            Err(refused) => return Err(refused),
+        }
+    }
+    Err(refusal(number, Why::NoBegin))
+}
+
+/// Adds the flow that a row after the first says, or answers false where the row is `begin`.
+fn take_row(
+    row: &ByteRecord,
+    number: u32,
+    nodes: u16,
+    known: &mut KnownFlows,
+) -> Result<bool, RowRefused>
+    ensures { TakesIn number (row_after nodes known.old (fields_of row.now)) known.old known.new result }
+{
+    match later_row(row, nodes) {
+        Ok(None) => Ok(false),
+        Ok(Some(flow)) => {
+            if known.add(flow)? {
+                Ok(true)
+            } else {
+                Err(refusal(number, Why::Duplicate))
+            }
+        }
+        Err(why) => Err(refusal(number, why)),
+    }
+}
