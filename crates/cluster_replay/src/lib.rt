@@ -3,6 +3,8 @@
 //! A contract sees a run's output as a text of its script and replies, `report` (`specs/Report.antt`).
 #![tactic(auto)]
 
+mod answering;
+mod directory;
 mod dotted;
 mod event;
 mod fault;
