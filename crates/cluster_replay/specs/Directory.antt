@@ -3,7 +3,7 @@ use Rattle.std.specs.Prelude.{Option}
 use Rattle.indexmap.specs.IndexMap.{get}
 use Rattle.flow_types.specs.declared.key.FlowKey.{FlowKey}
 use Rattle.flow_types.specs.declared.record.Flow.{Flow}
-use Rattle.cluster_replay.specs.Replies.{same_key}
+use Rattle.flow_reader.specs.Opening.{same_key}
 use Rattle.cluster_replay.specs.declared.directory.Directory.{Directory}
 
 -- the flow that a directory has at a key

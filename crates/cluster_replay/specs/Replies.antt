@@ -1,20 +1,12 @@
 -- What each event of a script is answered, by the flows of the opening.
-use Rattle.std.specs.Prelude.{◌==◌, ◌&&◌, Bool, List, [], ◌∷◌, map, Option, Some, None, if◌then◌else◌}
+use Rattle.std.specs.Prelude.{List, [], ◌∷◌, map, Option, Some, None, if◌then◌else◌}
 use Rattle.flow_types.specs.declared.key.FlowKey.{FlowKey}
 use Rattle.flow_types.specs.declared.record.Flow.{Flow}
+use Rattle.flow_reader.specs.Opening.{same_key}
 use Rattle.cluster_replay.specs.declared.event.Event.{Event}
 use Rattle.cluster_replay.specs.declared.event.Event.TheVariants.{Packet}
 use Rattle.cluster_replay.specs.declared.reply.Reply.{Reply}
 use Rattle.cluster_replay.specs.declared.reply.Reply.TheVariants.{Found, Unknown}
-
--- two keys agree in each field
-abbrev pub same_key : FlowKey → FlowKey → Bool
-same_key a b =
-    (a.source == b.source)
-    && ((a.destination == b.destination)
-    && ((a.source_port == b.source_port)
-    && ((a.destination_port == b.destination_port)
-    && (a.protocol == b.protocol))))
 
 -- the flow at a key, once more flows are put at theirs
 abbrev pub flow_after : Option Flow → List Flow → FlowKey → Option Flow

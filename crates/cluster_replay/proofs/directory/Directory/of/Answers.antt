@@ -1,6 +1,6 @@
 use Rattle.std.proofs.Common.{ap}
 use Rattle.std.specs.Map.{lookup}
-use Rattle.cluster_replay.specs.Replies.{same_key}
+use Rattle.flow_reader.specs.Opening.{same_key}
 use Rattle.cluster_replay.proofs.Flows.{flows_none, flows_more}
 use Rattle.cluster_replay.proofs.directory.Directory.of.Goals as goal
 
