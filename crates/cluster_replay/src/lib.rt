@@ -22,3 +22,6 @@ pub use fault::InputFault;
 pub use replaying::replay;
 pub use reply::Reply;
 pub use reporting::report;
+
+#[cfg(test)]
+mod tests;
