@@ -1,0 +1,5 @@
+mod Counts
+mod Lines
+mod Flows
+mod Scripts
+mod Openings

@@ -1,0 +1,5 @@
+pub mod Report
+pub mod Replies
+pub mod Directory
+pub mod Script
+pub mod Outcome

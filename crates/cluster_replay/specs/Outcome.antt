@@ -1,0 +1,40 @@
+-- What an input comes to.
+use Rattle.std.specs.Prelude.{◌≡◌, ℕ, List, drop, Result, Ok, Err, Vec}
+use Rattle.std.specs.Global.{Global}
+use Rattle.csv_rows.specs.Rows.{Row, rows}
+use Rattle.flow_reader.specs.Opening.{opening_of}
+use Rattle.flow_reader.specs.declared.opening.Opening.{Opening}
+use Rattle.flow_reader.specs.declared.opening.RowRefused.{RowRefused}
+use Rattle.flow_reader.specs.declared.opening.RowRefused.TheVariants as refused
+use Rattle.flow_types.specs.declared.why.BadRow.{BadRow}
+use Rattle.cluster_replay.specs.declared.event.Event.{Event}
+use Rattle.cluster_replay.specs.declared.fault.InputFault.{InputFault}
+use Rattle.cluster_replay.specs.declared.fault.InputFault.TheVariants.{Bad, OutOfMemory}
+use Rattle.cluster_replay.specs.Replies.{replayed}
+use Rattle.cluster_replay.specs.Report.{report}
+use Rattle.cluster_replay.specs.Script.{script_of}
+
+-- what a script over an opening's flows comes to
+abbrev pub outcome_of_script : Opening → Result (List Event) BadRow → Result (List ℕ) InputFault
+outcome_of_script opening (Ok script) = Ok (report script (replayed opening.flows script))
+outcome_of_script opening (Err bad) = Err (Bad bad)
+
+-- what rows come to: first their opening, then the script of the rows after it
+abbrev pub outcome_of_rows : List Row → Result Opening BadRow → Result (List ℕ) InputFault
+outcome_of_rows all (Ok opening) = outcome_of_script opening (script_of opening.shape.nodes opening.begin_row (drop opening.begin_row all))
+outcome_of_rows all (Err bad) = Err (Bad bad)
+
+-- what an input comes to: its report, or its first bad row
+unfoldable pub outcome : List ℕ → Result (List ℕ) InputFault
+outcome bytes = outcome_of_rows (rows bytes) (opening_of (rows bytes))
+
+-- a run gave the outcome, or memory was lacking
+abbrev pub Gives : Result (Vec ℕ Global) InputFault → Result (List ℕ) InputFault → Type 0
+Gives (Ok made) what = what ≡ Ok made.items
+Gives (Err (Bad bad)) what = what ≡ Err (Bad bad)
+Gives (Err OutOfMemory) what = Unit {0}
+
+-- the fault of rows that were refused
+abbrev pub fault_of : RowRefused → InputFault
+fault_of (refused.Bad bad) = Bad bad
+fault_of refused.OutOfMemory = OutOfMemory

@@ -1,0 +1,27 @@
+//! A cluster's run by one thread: from the rows of an input to the printed path of each packet.
+//!
+//! A contract sees an input as what it comes to, its report or its first bad row (`specs/Outcome.antt`). The rows after
+//! `begin` are a script of events (`specs/Script.antt`), each event gets its reply (`specs/Replies.antt`), and the report
+//! prints both (`specs/Report.antt`).
+//!
+//! Proved: `replay` gives its input's outcome, or want of memory. Only tested: that memory suffices.
+#![tactic(auto)]
+
+mod answering;
+mod directory;
+mod dotted;
+mod event;
+mod fault;
+mod replaying;
+mod reply;
+mod reporting;
+mod script;
+
+pub use event::Event;
+pub use fault::InputFault;
+pub use replaying::replay;
+pub use reply::Reply;
+pub use reporting::report;
+
+#[cfg(test)]
+mod tests;

@@ -1,0 +1,130 @@
+ghost use Rattle.std.specs.Prelude.{◌≡◌, ◌+◌, ◌<◌, ◌≤◌, ◌^◌, length, drop, ◌++◌, is_none, option_to_list, IfOk, OnOk};
+ghost use Rattle.csv_rows.specs.Rows.{fields_of, rows};
+ghost use Rattle.csv_rows.specs.Reading.{IsReading, rows_left};
+ghost use Rattle.flow_reader.specs.Opening.{bad_row};
+ghost use Rattle.cluster_replay.specs.Script.{Answers, packet_fields, row_after, script_of, script_row};
+
+use crate::event::Event;
+use csv_rows::{ByteRecord, RowReader, field};
+use flow_reader::{MOST_OCTETS, RowRefused, is_kind, key_at, node_field};
+use flow_types::{BadRow, Shape, Why};
+use out_of_memory::OutOfMemory;
+use std::alloc::Global;
+
+/// Reads the rows after `begin`, which stands in the row of this number, to the end of the input.
+pub fn read_script(
+    alloc: Global,
+    bytes: &[u8],
+    begin_row: u32,
+    shape: Shape,
+) -> Result<Vec<Event>, RowRefused>
+    requires limit { length bytes.now ≤ MOST_OCTETS }
+    requires begun { begin_row ≤ length (rows bytes.now) }
+    ensures { Answers (script_of shape.nodes begin_row (drop begin_row (rows bytes.now))) result }
+{
+    let mut reader = RowReader::new(alloc, bytes);
+    skip_rows(alloc, &mut reader, begin_row)?;
+    read_rows(alloc, reader, begin_row, shape.nodes())
+}
+
+/// Takes so many rows from the reader.
+#[tactic(auto, using(crate::proofs::Scripts::row_skipped))]
+fn skip_rows(alloc: Global, reader: &mut RowReader<'_>, count: u32) -> Result<(), OutOfMemory>
+    requires reading { IsReading reader.old }
+    requires enough { count ≤ length (rows_left reader.old) }
+    ensures reading { OnOk result (IsReading reader.new) }
+    ensures skipped { OnOk result (rows_left reader.new ≡ drop count (rows_left reader.old)) }
+{
+    let mut row = ByteRecord::new(alloc);
+    'skipped: for _taken in 0..count {
+        reader.next_row(&mut row)?;
+    }
+    Ok(())
+}
+
+#[tactic(auto, using(crate::proofs::Scripts::script_begins))]
+fn read_rows(
+    alloc: Global,
+    mut reader: RowReader<'_>,
+    begin_row: u32,
+    nodes: u16,
+) -> Result<Vec<Event>, RowRefused>
+    requires reading { IsReading reader }
+    requires few { begin_row + length (rows_left reader) < 2 ^ 31 }
+    ensures { Answers (script_of nodes begin_row (rows_left reader.entry)) result }
+{
+    let mut events = Vec::new(alloc);
+    let mut ended = false;
+    let mut number = begin_row + 1;
+    let mut row = ByteRecord::new(alloc);
+    'rows: while reader.next_row(&mut row)? {
+        let said = match row_after(ended, nodes, &row) {
+            Ok(said) => said,
+            Err(why) => return Err(refusal(number, why)),
+        };
+        ended = add(&mut events, said)?;
+        number += 1;
+    }
+    if ended {
+        Ok(events)
+    } else {
+        Err(refusal(number, Why::NoEnd))
+    }
+}
+
+/// Adds what a row said to the events before it, and says whether the script ends there.
+fn add(events: &mut Vec<Event>, said: Option<Event>) -> Result<bool, OutOfMemory>
+    ensures ended { IfOk result (λ ended. ended ≡ is_none said) }
+    ensures events { OnOk result (events.new.items ≡ events.old.items ++ option_to_list said) }
+{
+    let Some(event) = said else {
+        return Ok(true);
+    };
+    events.push(event)?;
+    Ok(false)
+}
+
+fn refusal(row: u32, why: Why) -> RowRefused
+    ensures { result ≡ RowRefused.Bad (bad_row row why) }
+{
+    RowRefused::Bad(BadRow { row, why })
+}
+
+/// What a row says of a script that has ended or not.
+fn row_after(ended: bool, nodes: u16, row: &ByteRecord) -> Result<Option<Event>, Why>
+    ensures { result ≡ row_after ended nodes (fields_of row.now) }
+{
+    if ended {
+        return Err(Why::AfterEnd);
+    }
+    script_row(nodes, row)
+}
+
+/// What a row says by itself: an event, or by `None` that the script ends.
+#[tactic(auto, unfolding(crate::specs::Script::script_row))]
+fn script_row(nodes: u16, row: &ByteRecord) -> Result<Option<Event>, Why>
+    ensures { result ≡ script_row nodes (fields_of row.now) }
+{
+    if is_kind(row, b"packet") {
+        if row.len() != 7 {
+            return Err(Why::Fields);
+        }
+        return packet_fields(nodes, row);
+    }
+    if !is_kind(row, b"end") {
+        return Err(Why::Kind);
+    }
+    if row.len() != 1 {
+        return Err(Why::Fields);
+    }
+    Ok(None)
+}
+
+#[tactic(auto, unfolding(crate::specs::Script::packet_fields))]
+fn packet_fields(nodes: u16, row: &ByteRecord) -> Result<Option<Event>, Why>
+    ensures { result ≡ packet_fields nodes (fields_of row.now) }
+{
+    let ingress = node_field(field(row, 1), nodes)?;
+    let key = key_at(row, 2)?;
+    Ok(Some(Event::Packet { ingress, key }))
+}
