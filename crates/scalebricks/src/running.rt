@@ -1,0 +1,133 @@
+ghost use Rattle.std.specs.Prelude.{ℕ, List, ◌≡◌, ◌≢◌, ◌≤◌, ◌↔◌, ◌⊎◌, ◌+◌, IsTrue, IsOk, IfOk, OnOk, IfSome, length, map, string_bytes};
+ghost use Rattle.std.specs.Io.KnownBytes.{Appends};
+ghost use Rattle.sb_io.specs.Faults.{Rose};
+ghost use Rattle.sb_io.specs.Streams.{ReadsCount, AppendsPart};
+ghost use Rattle.cluster_replay.specs.Outcome.{outcome};
+ghost use Rattle.scalebricks.specs.Printed.{printed, HasBadRow};
+ghost use Rattle.scalebricks.specs.Run.{IsCommand, IsHindered, IsReadable, OfInput, WritesNothing, outcome_status, status_of};
+
+use crate::refusal::refused_line;
+use crate::status::{
+    DONE, INPUT_LIMIT, OUT_OF_MEMORY, READ_FAULT, ROW_REFUSED, TOO_LARGE, WORDS_REFUSED,
+    WRITE_FAULT,
+};
+use cluster_replay::{InputFault, replay};
+use out_of_memory::OutOfMemory;
+use sb_io::{Gate, ReadRefusal, Sink, Source, WriteFault, read_all, write_all};
+use std::alloc::Global;
+use std::sync::Wait;
+use std::thread::Threads;
+
+/// How many workers build the table.
+const WORKERS: u8 = 4;
+
+/// Does what the words ask for, from the whole input to the whole output, and answers the status.
+///
+/// The words are those after the program's name. Nothing is written before the whole output is made.
+pub fn run<S: Source, K: Sink, G: Gate + Sync, R: Threads + Wait>(
+    rt: &R,
+    alloc: Global,
+    words: &[String],
+    input: &mut S,
+    output: &mut K,
+    _gate: &G,
+) -> u8
+    ensures known { result ≤ TOO_LARGE }
+
+    // The input was read to its end and has no bad row, and its report was appended.
+    ensures done { result ≡ DONE → OfInput (S.left input.old) (S.left input.new) (λ octets.
+        IsOk (outcome octets) × Appends (K.held output.old) (K.held output.new) (printed (outcome octets))) }
+
+    // The input was read to its end and has a bad row, and the line of the first one was appended.
+    ensures refused { result ≡ ROW_REFUSED → OfInput (S.left input.old) (S.left input.new) (λ octets.
+        HasBadRow (outcome octets) × Appends (K.held output.old) (K.held output.new) (printed (outcome octets))) }
+
+    ensures command { IsCommand (map string_bytes words.now) ↔ (result ≢ WORDS_REFUSED) }
+    ensures nothing_read { result ≡ WORDS_REFUSED → input.new ≡ input.old }
+
+    ensures read_fault { result ≡ READ_FAULT → Rose (S.faults input.old) (S.faults input.new) }
+
+    // What 0 or 1 would have appended was cut short.
+    ensures write_fault { result ≡ WRITE_FAULT → Rose (K.faults output.old) (K.faults output.new) }
+    ensures cut_short { result ≡ WRITE_FAULT → OfInput (S.left input.old) (S.left input.new) (λ octets.
+        AppendsPart (K.held output.old) (K.held output.new) (printed (outcome octets))) }
+
+    // One octet more than the limit was read.
+    ensures too_large { IfSome (S.left input.old) (λ octets.
+        (result ≡ TOO_LARGE) ↔ ReadsCount octets (S.left input.new) (INPUT_LIMIT + 1)) }
+
+    ensures nothing { WritesNothing result → output.new ≡ output.old }
+
+    // A command's status is that of its input, but where a fault or want of memory comes first.
+    ensures exact { IfSome (S.left input.old) (λ octets. IsCommand (map string_bytes words.now) →
+        (result ≡ status_of octets) ⊎ IsHindered result) }
+    ensures complete { IfSome (S.left input.old) (λ octets. IsCommand (map string_bytes words.now) → IsReadable octets
+        → ¬ Rose (S.faults input.old) (S.faults input.new) → ¬ Rose (K.faults output.old) (K.faults output.new)
+        → (result ≡ DONE) ⊎ (result ≡ OUT_OF_MEMORY)) }
+{
+    if !is_command(words) {
+        return WORDS_REFUSED;
+    }
+    let made = match read_all(alloc, input, INPUT_LIMIT) {
+        Ok(bytes) => make_output(rt, alloc, &bytes),
+        Err(ReadRefusal::ReadFault) => return READ_FAULT,
+        Err(ReadRefusal::TooLarge { limit: _ }) => return TOO_LARGE,
+        Err(ReadRefusal::OutOfMemory) => return OUT_OF_MEMORY,
+    };
+    match made {
+        Ok(made) => print_output(made, output),
+        Err(OutOfMemory) => OUT_OF_MEMORY,
+    }
+}
+
+/// Whether the words are a command: the one word `replay`.
+fn is_command(words: &[String]) -> bool
+    ensures { IsTrue result ↔ IsCommand (map string_bytes words.now) }
+{
+    match words {
+        [word] => word.as_str() == "replay",
+        _ => false,
+    }
+}
+
+/// All that a run prints, and the status with which it ends once that is written.
+#[derive(Debug, Drop)]
+struct Output {
+    text: Vec<u8>,
+    status: u8,
+}
+
+/// Makes what is printed for an input: its report, or the line of its first bad row.
+fn make_output<R: Threads>(rt: &R, alloc: Global, bytes: &[u8]) -> Result<Output, OutOfMemory>
+    requires { length bytes.now ≤ INPUT_LIMIT }
+    ensures text { IfOk result (λ made. made.text.items ≡ printed (outcome bytes.now)) }
+    ensures status { IfOk result (λ made. made.status ≡ outcome_status (outcome bytes.now)) }
+    ensures known { OnOk result (IsOk (outcome bytes.now) ⊎ HasBadRow (outcome bytes.now)) }
+{
+    match replay(rt, alloc, bytes, WORKERS) {
+        Ok(text) => Ok(Output { text, status: DONE }),
+        Err(InputFault::Bad(bad)) => {
+            let line = refused_line(alloc, bad)?;
+            let status = ROW_REFUSED;
+            Ok(Output {
+                text: line.into_bytes(),
+                status,
+            })
+        }
+        Err(InputFault::OutOfMemory) => Err(OutOfMemory),
+    }
+}
+
+/// Writes the output, and answers the status.
+fn print_output<K: Sink>(made: Output, output: &mut K) -> u8
+    requires { made.status ≢ WRITE_FAULT }
+    ensures status { (result ≡ made.status) ⊎ (result ≡ WRITE_FAULT) }
+    ensures written { result ≡ made.status → Appends (K.held output.old) (K.held output.new) made.text.items }
+    ensures write_fault { result ≡ WRITE_FAULT → Rose (K.faults output.old) (K.faults output.new) }
+    ensures cut_short { result ≡ WRITE_FAULT → AppendsPart (K.held output.old) (K.held output.new) made.text.items }
+{
+    match write_all(output, &made.text) {
+        Ok(()) => made.status,
+        Err(WriteFault) => WRITE_FAULT,
+    }
+}

@@ -1,0 +1,174 @@
+ghost use Rattle.std.specs.Prelude.{◌≢◌};
+
+use crate::run;
+use crate::status::{
+    DONE, INPUT_LIMIT, OUT_OF_MEMORY, READ_FAULT, ROW_REFUSED, TOO_LARGE, WORDS_REFUSED,
+    WRITE_FAULT, complaint,
+};
+use sb_io::{HonestSink, HonestSource, MemSink, MemSource, OpenGate};
+use std::alloc::Global;
+use std::sync::Wait;
+use std::test::Fail;
+use std::thread::Threads;
+
+const ROOM: usize = 1000;
+
+/// A row of input and the output, each line ended by a line feed.
+type Case<'a> = (&'a str, u8, &'a str);
+
+fn one_word(alloc: Global, word: &str) -> Result<Vec<String>, Fail> {
+    Ok(vec![in alloc; String::from_str(alloc, word)?]?)
+}
+
+#[test]
+fn answers_each_input(rt: HostRuntime) -> Result<(), Fail> {
+    let cases: [Case; 10] = [
+        (
+            "cluster,4,1\nbegin\npacket,0,10.0.0.1,192.0.2.7,1000,443,6\nend\n",
+            DONE,
+            "packet 0 in 0 to 0 hops 0 seen 0 fib 0 unknown\n\
+             done packets 1 found 0 unknown 1\n",
+        ),
+        (
+            "cluster,4,1\nflow,10.0.0.1,192.0.2.7,1000,443,6,2,77,192.168.0.9\nbegin\n\
+             packet,0,10.0.0.1,192.0.2.7,1000,443,6\nend\n",
+            DONE,
+            "packet 0 in 0 to 2 hops 1 seen 0 fib 0 teid 77 base 192.168.0.9\n\
+             done packets 1 found 1 unknown 0\n",
+        ),
+        (
+            "cluster,4,1\nflow,10.0.0.1,192.0.2.7,1000,443,6,2,77,192.168.0.9\nbegin\n\
+             packet,2,10.0.0.1,192.0.2.7,1000,443,6\nend\n",
+            DONE,
+            "packet 0 in 2 to 2 hops 0 seen 0 fib 0 teid 77 base 192.168.0.9\n\
+             done packets 1 found 1 unknown 0\n",
+        ),
+        (
+            "cluster,1,1\nbegin\nend\n",
+            ROW_REFUSED,
+            "refused row 1 Number\n",
+        ),
+        (
+            "cluster,16,256\nbegin\nend\n",
+            DONE,
+            "done packets 0 found 0 unknown 0\n",
+        ),
+        (
+            "cluster,4,1\nflow,10.0.0.1,192.0.2.7,1,443,6,0,1,192.168.0.9\n\
+             flow,10.0.0.1,192.0.2.7,2,443,6,0,2,192.168.0.9\n\
+             flow,10.0.0.1,192.0.2.7,3,443,6,0,3,192.168.0.9\n\
+             flow,10.0.0.1,192.0.2.7,4,443,6,0,4,192.168.0.9\n\
+             flow,10.0.0.1,192.0.2.7,5,443,6,0,5,192.168.0.9\n\
+             flow,10.0.0.1,192.0.2.7,2,443,6,1,6,192.168.0.9\nbegin\nend\n",
+            ROW_REFUSED,
+            "refused row 7 Duplicate\n",
+        ),
+        ("", ROW_REFUSED, "refused row 1 NoBegin\n"),
+        ("cluster,4,1\nbegin\n", ROW_REFUSED, "refused row 3 NoEnd\n"),
+        (
+            "cluster,4,1\nbegin\nend\nsync\n",
+            ROW_REFUSED,
+            "refused row 4 AfterEnd\n",
+        ),
+        (
+            "cluster,4,1\nbegin\nsync\nend\n",
+            ROW_REFUSED,
+            "refused row 3 Kind\n",
+        ),
+    ];
+    let alloc = rt.alloc();
+    let words = one_word(alloc, "replay")?;
+    for (rows, wanted, printed) in cases {
+        let mut input = MemSource::new(alloc, rows.as_bytes(), &[])?;
+        let mut output = MemSink::new(alloc, ROOM, &[])?;
+        let status = run(&rt, alloc, &words, &mut input, &mut output, &OpenGate);
+        assert_eq!(rt; status, wanted, "of {rows:?}");
+        assert_eq!(rt; output.content(), printed.as_bytes(), "of {rows:?}");
+    }
+    Ok(())
+}
+
+#[test]
+fn faults_and_other_words_end_it(rt: HostRuntime) -> Result<(), Fail> {
+    let alloc = rt.alloc();
+    let rows = b"cluster,4,1\nbegin\nend\n";
+    // The words, the calls of the source and of the sink that fail, the sink's room, and the status.
+    let cases: [(&str, &[u64], &[u64], usize, u8); 6] = [
+        ("replay", &[2], &[], ROOM, READ_FAULT),
+        ("replay", &[], &[1], ROOM, WRITE_FAULT),
+        ("replay", &[], &[], 10, WRITE_FAULT),
+        ("fly", &[1], &[1], 0, WORDS_REFUSED),
+        ("Replay", &[], &[], ROOM, WORDS_REFUSED),
+        ("replay ", &[], &[], ROOM, WORDS_REFUSED),
+    ];
+    for (word, unread, unwritten, room, wanted) in cases {
+        let words = one_word(alloc, word)?;
+        let mut input = MemSource::new(alloc, rows, unread)?;
+        let mut output = MemSink::new(alloc, room, unwritten)?;
+        let status = run(&rt, alloc, &words, &mut input, &mut output, &OpenGate);
+        assert_eq!(rt; status, wanted, "of {word:?}");
+        assert!(rt; output.content().is_empty(), "of {word:?}");
+    }
+    Ok(())
+}
+
+#[test]
+fn no_word_and_two_words_are_no_command(rt: HostRuntime) -> Result<(), Fail> {
+    let alloc = rt.alloc();
+    let mut two = one_word(alloc, "replay")?;
+    two.push(String::from_str(alloc, "replay")?)?;
+    for words in [Vec::new(alloc), two] {
+        let mut input = HonestSource::new(alloc, b"")?;
+        let status = run(
+            &rt,
+            alloc,
+            &words,
+            &mut input,
+            &mut HonestSink::new(),
+            &OpenGate,
+        );
+        assert_eq!(rt; status, WORDS_REFUSED);
+    }
+    Ok(())
+}
+
+#[test]
+fn one_octet_over_the_limit_is_too_large(rt: HostRuntime) -> Result<(), Fail> {
+    let alloc = rt.alloc();
+    let words = one_word(alloc, "replay")?;
+    let content = vec![in alloc; b'x'; INPUT_LIMIT as usize + 1]?;
+    let mut input = HonestSource::new(alloc, &content)?;
+    let status = run_honestly(&rt, alloc, &words, &mut input, &mut HonestSink::new());
+    assert_eq!(rt; status, TOO_LARGE);
+    Ok(())
+}
+
+/// Over a source and a sink that never fail, no fault is told.
+fn run_honestly<R: Threads + Wait>(
+    rt: &R,
+    alloc: Global,
+    words: &[String],
+    input: &mut HonestSource,
+    output: &mut HonestSink,
+) -> u8
+    ensures no_read_fault { result ≢ READ_FAULT }
+    ensures no_write_fault { result ≢ WRITE_FAULT }
+{
+    run(rt, alloc, words, input, output, &OpenGate)
+}
+
+#[test]
+fn each_status_has_its_line(rt: HostRuntime) {
+    let lines = [
+        (DONE, None),
+        (ROW_REFUSED, None),
+        (WORDS_REFUSED, Some("scalebricks: words refused")),
+        (READ_FAULT, Some("scalebricks: read fault")),
+        (WRITE_FAULT, Some("scalebricks: write fault")),
+        (OUT_OF_MEMORY, Some("scalebricks: out of memory")),
+        (TOO_LARGE, Some("scalebricks: input too large")),
+    ];
+    for (status, line) in lines {
+        assert_eq!(rt; complaint(status), line, "of status {status}");
+    }
+}
