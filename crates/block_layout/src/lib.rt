@@ -1,0 +1,18 @@
+//! The layout of a block: its 256 buckets of keys, and the group that each bucket goes to.
+//!
+//! A bucket has four candidate groups among the 64 of its block (`specs/Candidate.antt`). `choose` deals the buckets out
+//! to their candidates so that the groups fill evenly, by the numbers of keys alone (`specs/Dealing.antt`). A contract
+//! sees the choices of a block as the list of its buckets' choices (`specs/Choices.antt`). No call takes memory.
+#![tactic(auto)]
+
+mod candidates;
+mod choices;
+mod dealing;
+pub mod laws;
+mod ranking;
+#[cfg(test)]
+mod tests;
+
+pub use candidates::candidate;
+pub use choices::Choices;
+pub use dealing::choose;
