@@ -1,6 +1,6 @@
 -- The groups that a bucket may go to.
 use Rattle.std.specs.Prelude.{ℕ, ◌+◌, ◌*◌, ◌/◌, ◌%◌, List, [], ◌∷◌, slice_index}
-use Rattle.block_layout.specs.declared.candidates.TheConstants.{GROUPS}
+use Rattle.block_layout.specs.declared.limits.TheConstants.{GROUPS}
 
 -- how far the candidates of a bucket stand apart, for each quarter of the buckets
 abbrev pub strides : List ℕ

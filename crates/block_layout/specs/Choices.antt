@@ -1,7 +1,7 @@
 -- The choices of a block's buckets, and the octets that hold four choices each.
 use Rattle.std.specs.Prelude.{◌≡◌, ◌≢◌, ℕ, ◌+◌, ◌*◌, ◌/◌, ◌%◌, ◌^◌, ◌<◌, List, length, map, slice_index, replicate}
 use Rattle.std.specs.List.{All, range_with_len}
-use Rattle.block_layout.specs.declared.candidates.TheConstants.{BUCKETS}
+use Rattle.block_layout.specs.declared.limits.TheConstants.{BUCKETS}
 
 -- the choice of bucket b stands in octet b / 4, in the two bits from 2 * (b % 4) up
 abbrev pub choice_at : List ℕ → ℕ → ℕ

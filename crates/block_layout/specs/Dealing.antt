@@ -4,9 +4,8 @@ use Rattle.std.specs.List.{All, range_with_len}
 use Rattle.std.specs.List.Sorted.{IsPermutation}
 use Rattle.block_layout.specs.Candidate.{candidate}
 use Rattle.block_layout.specs.Choices.{none_chosen}
-use Rattle.block_layout.specs.declared.candidates.TheConstants.{BUCKETS, GROUPS, CANDIDATES}
 use Rattle.block_layout.specs.declared.dealing.Dealt.{Dealt}
-use Rattle.block_layout.specs.declared.ranking.TheConstants.{MOST_KEYS}
+use Rattle.block_layout.specs.declared.limits.TheConstants.{BUCKETS, GROUPS, CANDIDATES, MOST_KEYS}
 
 unfoldable pub buckets : List ℕ
 buckets = range_with_len 0 BUCKETS

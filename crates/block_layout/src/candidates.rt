@@ -1,12 +1,7 @@
 ghost use Rattle.std.specs.Prelude.{◌≡◌, ◌<◌};
 ghost use Rattle.block_layout.specs.Candidate as layout;
 
-/// The number of buckets of a block.
-pub const BUCKETS: usize = 256;
-/// The number of groups of a block.
-pub const GROUPS: u8 = 64;
-/// The number of candidates of a bucket.
-pub const CANDIDATES: u8 = 4;
+use crate::limits::{CANDIDATES, GROUPS};
 
 /// How far the candidates of a bucket stand apart, for each quarter of the buckets. No two quarters have the same
 /// distance, so that buckets which share one candidate share few others.

@@ -1,9 +1,10 @@
 ghost use Rattle.std.specs.Prelude.{◌≡◌, ◌<◌, slice_index, slice_set};
 ghost use Rattle.block_layout.specs.Candidate.{candidate};
 ghost use Rattle.block_layout.specs.Choices.{octets, none_chosen, Replaces};
-ghost use Rattle.block_layout.specs.declared.candidates.TheConstants.{CANDIDATES, GROUPS};
+ghost use Rattle.block_layout.specs.declared.limits.TheConstants.{CANDIDATES, GROUPS};
 
-use crate::candidates::{CANDIDATES, candidate};
+use crate::candidates::candidate;
+use crate::limits::CANDIDATES;
 use std::marker::Model;
 
 /// The choice of each bucket of a block: which of its four candidates is its group.

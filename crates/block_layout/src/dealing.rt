@@ -1,11 +1,11 @@
 ghost use Rattle.std.specs.Prelude.{◌≡◌, ℕ, ◌+◌, ◌^◌, ◌≤◌, ◌<◌, sum};
 ghost use Rattle.std.specs.List.{All};
 ghost use Rattle.block_layout.specs.Dealing as dealing;
-ghost use Rattle.block_layout.specs.declared.ranking.TheConstants.{MOST_KEYS};
-ghost use Rattle.block_layout.specs.declared.candidates.TheConstants.{CANDIDATES};
+ghost use Rattle.block_layout.specs.declared.limits.TheConstants.{CANDIDATES, MOST_KEYS};
 
-use crate::candidates::{CANDIDATES, candidate};
+use crate::candidates::candidate;
 use crate::choices::Choices;
+use crate::limits::CANDIDATES;
 use crate::ranking::{bucket_of, ranks_in_order};
 
 /// The choices that fill the groups of a block evenly, from the numbers of keys of its buckets. The buckets are taken by

@@ -2,7 +2,7 @@
 
 ghost use Rattle.std.specs.Prelude.{ℕ, ◌≤◌, sum};
 ghost use Rattle.block_layout.specs.Dealing.{order_of, first_least, choices_of, IsOrder, IsFirstLeast, AreChoices};
-ghost use Rattle.block_layout.specs.declared.ranking.TheConstants.{MOST_KEYS};
+ghost use Rattle.block_layout.specs.declared.limits.TheConstants.{MOST_KEYS};
 
 /// The buckets are dealt out by falling number of keys, of two with as many the lower first.
 pub fn order_is_by_size(sizes: &[u16; 256])

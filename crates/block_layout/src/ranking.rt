@@ -1,12 +1,8 @@
 ghost use Rattle.std.specs.Prelude.{◌≡◌, ◌≤◌, ◌%◌, map, sum};
 ghost use Rattle.block_layout.specs.Dealing.{rank, buckets, order_of};
-ghost use Rattle.block_layout.specs.declared.ranking.TheConstants.{MOST_KEYS};
-ghost use Rattle.block_layout.specs.declared.candidates.TheConstants.{BUCKETS};
+ghost use Rattle.block_layout.specs.declared.limits.TheConstants.{BUCKETS, MOST_KEYS};
 
-use crate::candidates::BUCKETS;
-
-/// The greatest number of keys of a block.
-pub const MOST_KEYS: u16 = 1536;
+use crate::limits::{BUCKETS, MOST_KEYS};
 
 /// The ranks of the buckets in the order in which they are dealt out. A bucket with more keys has the lower rank, and
 /// of two with as many keys the lower bucket has it.
