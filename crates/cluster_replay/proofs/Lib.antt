@@ -2,4 +2,4 @@ mod Counts
 mod Lines
 mod Flows
 mod Scripts
-mod Openings
+mod FirstBadFacts

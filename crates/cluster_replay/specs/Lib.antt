@@ -3,3 +3,4 @@ pub mod Replies
 pub mod Directory
 pub mod Script
 pub mod Outcome
+pub mod FirstBad
