@@ -50,28 +50,21 @@ impl FlowKey {
     }
 
     /// The octets of the key's number, the greatest first.
-    #[tactic(auto, unfolding(crate::specs::Key::octets))]
     pub fn to_bytes(&self) -> [u8; 13]
         ensures { result ≡ key.octets self.now }
     {
-        let [
-            _,
-            _,
-            _,
-            s0,
-            s1,
-            s2,
-            s3,
-            d0,
-            d1,
-            d2,
-            d3,
-            sp0,
-            sp1,
-            dp0,
-            dp1,
+        let FlowKey {
+            source,
+            destination,
+            source_port,
+            destination_port,
             protocol,
-        ] = self.number().to_be_bytes();
+        } = *self;
+        let [s0, s1, s2, s3] = source.to_be_bytes();
+        let [d0, d1, d2, d3] = destination.to_be_bytes();
+        let [sp0, sp1] = source_port.to_be_bytes();
+        let [dp0, dp1] = destination_port.to_be_bytes();
+        let [protocol] = protocol.to_be_bytes();
         [s0, s1, s2, s3, d0, d1, d2, d3, sp0, sp1, dp0, dp1, protocol]
     }
 

@@ -2,10 +2,12 @@
 
 ghost use Rattle.std.specs.Prelude.{◌≡◌, ◌↔◌, ℕ, ◌^◌, ◌<◌, ◌≤◌, List, Some};
 ghost use Rattle.std.specs.Fmt.{decimal};
+ghost use Rattle.std.specs.Ordering.{nat_cmp};
 ghost use Rattle.flow_types.specs.Key.{number, key_of, octets};
 ghost use Rattle.flow_types.specs.Text.{number_value, address_value, address_text};
 
 use crate::key::FlowKey;
+use std::cmp::Ordering;
 
 /// A text is a number of at most `max` exactly where it is what `{}` prints of that number.
 pub fn number_texts()
@@ -36,3 +38,10 @@ pub fn number_of_its_key()
 pub fn octets_tell_keys_apart(key: FlowKey, other: FlowKey)
     ensures { octets key ≡ octets other → key ≡ other }
 {}
+
+/// Keys are ordered as their numbers are.
+pub fn order_of_keys(key: FlowKey, other: FlowKey) -> Ordering
+    ensures { result ≡ nat_cmp (number key) (number other) }
+{
+    key.cmp(&other)
+}

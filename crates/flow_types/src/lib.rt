@@ -1,7 +1,9 @@
 //! The types that every layer names: flow keys, records, flows, a cluster's shape, and why a row of input is bad.
 //!
-//! A contract sees a key's number (`specs/Key.antt`), a shape as its two numbers (`specs/Size.antt`), and the texts of
-//! numbers and addresses by what they write (`specs/Text.antt`).
+//! A contract sees a key as its fields, of which `specs/Key.antt` makes its number and its octets, a shape as its two
+//! numbers (`specs/Size.antt`), and texts by what they write (`specs/Text.antt`). No call takes memory.
+//! Proved: each call computes its definition, and the definitions fit together as `laws` says. Only tested: that the
+//! definitions meet vectors from outside.
 #![tactic(auto)]
 
 mod address;
@@ -10,6 +12,8 @@ pub mod laws;
 mod numeral;
 mod record;
 mod shape;
+#[cfg(test)]
+mod tests;
 mod why;
 
 pub use address::{read_address, write_address};

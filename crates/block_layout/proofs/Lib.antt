@@ -1,0 +1,4 @@
+pub mod ChoicesLemmas
+pub mod DealingLemmas
+pub mod Ranks
+pub mod Sorting

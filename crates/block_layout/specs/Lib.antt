@@ -1,0 +1,4 @@
+pub mod Candidate
+pub mod Choices
+pub mod Dealing
+pub mod Packing
