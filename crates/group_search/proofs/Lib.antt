@@ -8,3 +8,4 @@ pub mod Chosen
 pub mod WordLemmas
 pub mod EachNode
 pub mod AnyOrder
+mod Numbered

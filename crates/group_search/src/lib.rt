@@ -15,6 +15,8 @@ mod record;
 mod rows;
 mod search;
 mod served;
+#[cfg(test)]
+mod tests;
 mod words;
 
 pub use choosing::{TooMany, canon, separable};

@@ -10,7 +10,7 @@ use flow_types::FlowKey;
 use hash_family::{HashPair, position};
 
 /// What a table keeps of a group.
-#[derive(Debug, Drop)]
+#[derive(Clone, Debug, PartialEq, Eq, Drop)]
 pub enum GroupRecord {
     /// Pairs that serve the group. They keep no keys.
     Served(Served),

@@ -17,7 +17,7 @@ pub struct Row {
 }
 
 /// The rows of a group that no indexes serve: 2 to 64, by strictly rising key.
-#[derive(Debug, Drop)]
+#[derive(Clone, Debug, PartialEq, Eq, Drop)]
 pub struct Rows {
     rows: ArrayVec<Row, MOST_ROWS>,
 }
