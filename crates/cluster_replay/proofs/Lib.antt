@@ -3,3 +3,4 @@ mod Lines
 mod Flows
 mod Scripts
 mod FirstBadFacts
+mod PathFacts

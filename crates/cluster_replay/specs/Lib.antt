@@ -4,3 +4,4 @@ pub mod Directory
 pub mod Script
 pub mod Outcome
 pub mod FirstBad
+pub mod Path

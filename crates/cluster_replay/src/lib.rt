@@ -20,7 +20,7 @@ mod script;
 
 pub use event::Event;
 pub use fault::InputFault;
-pub use law::first_bad_row_law;
+pub use law::{first_bad_row_law, replies_are_paths_law};
 pub use replaying::replay;
 pub use reply::Reply;
 pub use reporting::report;

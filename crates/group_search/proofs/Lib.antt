@@ -9,3 +9,6 @@ pub mod WordLemmas
 pub mod EachNode
 pub mod AnyOrder
 mod Numbered
+pub mod NeededRows
+pub mod Mapped
+pub mod EachFlow

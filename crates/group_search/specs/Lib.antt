@@ -6,3 +6,8 @@ pub mod Canon
 pub mod Decoding
 pub mod Words
 pub mod Laws
+pub mod Home
+pub mod Records
+pub mod Image
+pub mod Build
+pub mod Routing

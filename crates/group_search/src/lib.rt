@@ -2,16 +2,19 @@
 //!
 //! A contract sees a `Served` as the list of its pairs and `Rows` as the list of its rows. `specs/Serving.antt` says
 //! what serves, `specs/Canon.antt` which record a group has, `specs/Decoding.antt` what a record says of a key, and
-//! `specs/Words.antt` how a record is packed. No call takes memory.
+//! `specs/Words.antt` how a record is packed. `specs/Home.antt` says which flows a group has, and `specs/Build.antt` what
+//! table the flows of a cluster give. No call takes memory, but a clone of an image.
 //! Proved: each call's exact answer; that a canonical record gives each of its keys its node, whatever the order of
 //! the entries. Only tested: nothing.
 #![tactic(auto)]
 
 mod choosing;
 mod entry;
+mod image;
 mod laws;
 mod limits;
 mod record;
+mod routing;
 mod rows;
 mod search;
 mod served;
@@ -21,9 +24,11 @@ mod words;
 
 pub use choosing::{TooMany, canon, separable};
 pub use entry::{Entry, Pair};
+pub use image::BlockImage;
 pub use laws::{canonical_gives_each_node, canonical_ignores_order};
 pub use limits::{FEWEST_ROWS, INDEXES, MOST_BITS, MOST_ENTRIES, MOST_ROWS, POSITIONS};
 pub use record::GroupRecord;
+pub use routing::{homes_route_each_flow, records_give_each_handler};
 pub use rows::{Row, Rows};
 pub use search::least;
 pub use served::Served;

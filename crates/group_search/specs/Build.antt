@@ -1,0 +1,57 @@
+-- The table that the flows of a cluster give: an image for each block, or the first block that is past a limit.
+use Rattle.std.specs.Prelude.{ℕ, zero, suc, ◌≡◌, ◌+◌, ◌<◌, List, length, map, sum, Option, Some, None, if◌then◌else◌, nat_lt, slice_index_or}
+use Rattle.std.specs.List.{range_with_len, slice_get}
+use Rattle.block_layout.specs.declared.limits.TheConstants.{GROUPS}
+use Rattle.flow_types.specs.declared.record.Flow.{Flow}
+use Rattle.flow_types.specs.Size.{Size, value_bits}
+use Rattle.group_search.specs.declared.entry.Entry.{Entry}
+use Rattle.group_search.specs.declared.limits.TheConstants.{MOST_ENTRIES, MOST_ROWS}
+use Rattle.group_search.specs.Canon.{is_separable}
+use Rattle.group_search.specs.Home.{Home, flows_of, choices, opening}
+use Rattle.group_search.specs.Records.{entries, record_of}
+use Rattle.group_search.specs.Image.{Image}
+
+-- how many rows these entries of a group need: none where indexes serve them, and else one each
+unfoldable pub rows_needed : (bits : ℕ) → List Entry → ℕ
+rows_needed bits entries = if is_separable bits entries then 0 else length entries
+
+-- how many rows the flows of all groups of a block need
+unfoldable pub needed : Size → List Flow → (block : ℕ) → ℕ
+needed size flows block =
+    sum (map (λ (group : ℕ). rows_needed (value_bits size.nodes) (entries (opening size.blocks flows (record { block = block; group = group })))) (range_with_len 0 GROUPS))
+
+-- the block that is past a limit: it has too many flows, or else they need too many rows
+pub data PastLimit : Type 0 where
+  TooManyFlows : (block : ℕ) → PastLimit
+  TooManyRows : (block needed : ℕ) → PastLimit
+
+-- what is past its limit in the block
+unfoldable pub past_limit_at : Size → List Flow → (block : ℕ) → Option PastLimit
+past_limit_at size flows block =
+    if nat_lt MOST_ENTRIES (length (flows_of size.blocks block flows)) then Some (TooManyFlows block)
+    else (if nat_lt MOST_ROWS (needed size flows block) then Some (TooManyRows block (needed size flows block)) else None)
+
+abbrev pub or_later : Option PastLimit → Option PastLimit → Option PastLimit
+or_later (Some here) later = Some here
+or_later None later = later
+
+-- the first of so many blocks, from `block` on, that is past a limit
+unfoldable pub first_past_limit : (count block : ℕ) → Size → List Flow → Option PastLimit
+first_past_limit zero block size flows = None
+first_past_limit (suc count) block size flows = or_later (past_limit_at size flows block) (first_past_limit count (block + 1) size flows)
+
+-- the first block that is past a limit; `None` where the flows can be built
+unfoldable pub past_limit : Size → List Flow → Option PastLimit
+past_limit size flows = first_past_limit size.blocks 0 size flows
+
+-- the image has the choices that the flows give the block, and the canonical record of each of its groups
+pub record IsImage (size : Size) (flows : List Flow) (block : ℕ) (image : Image) : Type 0 where
+  pub choices : image.choices ≡ choices size.blocks block flows
+  pub one_each : length image.records ≡ GROUPS
+  pub records : (group : ℕ) → group < GROUPS → slice_get image.records group ≡ record_of size flows (record { block = block; group = group })
+
+-- the flows can be built, and these are the images of all blocks, in their order
+pub record IsBuild (size : Size) (flows : List Flow) (images : List Image) : Type 0 where
+  pub within : past_limit size flows ≡ None
+  pub one_each : length images ≡ size.blocks
+  pub each : (block : ℕ) (d : Image) → block < size.blocks → IsImage size flows block (slice_index_or images block d)
