@@ -7,10 +7,12 @@
 //! flows do. Only tested: nothing.
 #![tactic(auto)]
 
+mod laws;
 mod routing;
 mod shard;
 #[cfg(test)]
 mod tests;
 
+pub use laws::{build_reaches_handlers, routes_stay_in_the_cluster};
 pub use routing::Route;
 pub use shard::PlainShard;
