@@ -1,5 +1,5 @@
 -- What an input comes to is its report, or its first bad row.
-use Rattle.std.proofs.Common.{◌≡◌, ◌+◌, ℕ, true, false, List, [], ◌∷◌, ◌++◌, length, map, drop, Option, Some, None, Result, Ok, Err, refl, sym, ap, arith, inl, inr, ◌∙◌, add-zero}
+use Rattle.std.proofs.Common.{◌≡◌, ◌+◌, ℕ, true, false, List, [], ◌∷◌, ◌++◌, length, map, drop, Option, Some, None, Result, Ok, Err, refl, sym, ap, subst, arith, inl, inr, ◌∙◌, add-zero}
 use Rattle.std.proofs.lemmas.List.{append-nil, append_assoc, length-append, map-append}
 use Rattle.flow_types.specs.declared.why.BadRow.{BadRow}
 use Rattle.flow_types.specs.declared.why.Why.{Why}
@@ -8,11 +8,16 @@ use Rattle.csv_rows.specs.Rows.{Row, rows}
 use Rattle.flow_reader.specs.FirstBad.{OpeningLaw}
 use Rattle.flow_reader.specs.Opening.{bad_row, opening_of}
 use Rattle.flow_reader.specs.declared.opening.Opening.{Opening}
+use Rattle.group_search.specs.Build.{PastLimit, past_limit}
+use Rattle.group_search.specs.Build.PastLimit.{TooManyFlows, TooManyRows}
 use Rattle.cluster_replay.specs.declared.event.Event.{Event}
 use Rattle.cluster_replay.specs.declared.fault.InputFault.{InputFault}
-use Rattle.cluster_replay.specs.declared.fault.InputFault.TheVariants.{Bad}
-use Rattle.cluster_replay.specs.FirstBad.{SayEvents, IsScript, BreaksAfter, IsFirstBadAfter, IsFirstBadRow, IsReportOf, OutcomeLaw}
-use Rattle.cluster_replay.specs.Outcome.{outcome, outcome_of_rows, outcome_of_script}
+use Rattle.cluster_replay.specs.declared.fault.InputFault.TheVariants.{Bad, BlockFull, RowsFull}
+use Rattle.cluster_replay.specs.FirstBad.{AreReadable, SayEvents, IsScript, BreaksAfter, IsFirstBadAfter, IsFirstBadRow, IsPast, IsReportOf, OutcomeLaw}
+use Rattle.cluster_replay.specs.Limits.{fault_of_limit}
+use Rattle.cluster_replay.specs.Replies.{replayed}
+use Rattle.cluster_replay.specs.Report.{report}
+use Rattle.cluster_replay.specs.Outcome.{opened, outcome, outcome_of_build, outcome_of_rows, outcome_of_script}
 use Rattle.cluster_replay.specs.Script.{script_next, script_from, script_of, script_row}
 
 -- what an event's row says
@@ -124,48 +129,82 @@ module _ (all : List Row) (law : OpeningLaw all) where
   comes_to : Result (List ℕ) InputFault
   comes_to = outcome_of_rows all (opening_of all)
 
-  is-report : (text : List ℕ) → comes_to ≡ Ok text → IsReportOf all text
-  unfolding comes_to
-  is-report text e = by (opening_of all) refl e
-    where
-      with_script : (opening : Opening) → opening_of all ≡ Ok opening → (o : Result (List Event) BadRow)
-          → script_of opening.shape.nodes opening.begin_row (drop opening.begin_row all) ≡ o → outcome_of_script opening o ≡ Ok text → IsReportOf all text
-      with_script opening opens (Err bad) says h = cc h
-      with_script opening opens (Ok script) says h = record {
-        opening = opening;
-        script = script;
-        opens = (law.made opening).0 opens;
-        goes_on = says-script opening.shape.nodes opening.begin_row (drop opening.begin_row all) script says;
-        prints = cc;
-      }
+  script_in : Opening → Result (List Event) BadRow
+  script_in opening = script_of opening.shape.nodes opening.begin_row (drop opening.begin_row all)
 
-      by : (o : Result Opening BadRow) → opening_of all ≡ o → outcome_of_rows all o ≡ Ok text → IsReportOf all text
-      by (Err bad) opens h = cc h
-      by (Ok opening) opens h = with_script opening opens (script_of opening.shape.nodes opening.begin_row (drop opening.begin_row all)) refl h
+  -- what is read, and what it comes to then: a text, a bad row, or a block
+  data Read : Type 0 where
+    Text : (opening : Opening) (script : List Event) → AreReadable all opening script → past_limit opening.shape opening.flows ≡ None
+        → comes_to ≡ Ok (report script (replayed (opened opening) script)) → Read
+    Past : (opening : Opening) (script : List Event) (past : PastLimit) → AreReadable all opening script → past_limit opening.shape opening.flows ≡ Some past
+        → comes_to ≡ Err (fault_of_limit past) → Read
+    First : (bad : BadRow) → IsFirstBadRow all bad → comes_to ≡ Err (Bad bad) → Read
+
+  read : Read
+  unfolding comes_to script_in
+  read = by (opening_of all) refl
+    where
+      with_past : (opening : Opening) (script : List Event) → AreReadable all opening script → comes_to ≡ outcome_of_build opening script (past_limit opening.shape opening.flows)
+          → (past : Option PastLimit) → past_limit opening.shape opening.flows ≡ past → Read
+      with_past opening script readable is None within = Text opening script readable within (is ∙ ap (outcome_of_build opening script) within)
+      with_past opening script readable is (Some past) first = Past opening script past readable first (is ∙ ap (outcome_of_build opening script) first)
+
+      with_script : (opening : Opening) → opening_of all ≡ Ok opening → (o : Result (List Event) BadRow) → script_in opening ≡ o → Read
+      with_script opening opens (Err bad) says =
+          First bad (inr (opening, (law.made opening).0 opens, says-bad opening.shape.nodes opening.begin_row (drop opening.begin_row all) bad says)) (rw (opens, says) refl)
+      with_script opening opens (Ok script) says =
+          with_past opening script
+          (record { opens = (law.made opening).0 opens; goes_on = says-script opening.shape.nodes opening.begin_row (drop opening.begin_row all) script says })
+          (rw (opens, says) refl) (past_limit opening.shape opening.flows) refl
+
+      by : (o : Result Opening BadRow) → opening_of all ≡ o → Read
+      by (Err bad) opens = First bad (inl ((law.bad bad).0 opens)) (rw opens refl)
+      by (Ok opening) opens = with_script opening opens (script_in opening) refl
+
+  is-report : (text : List ℕ) → Read → comes_to ≡ Ok text → IsReportOf all text
+  is-report text (Text opening script readable within is) e =
+      let same : text ≡ report script (replayed (opened opening) script) = cc in
+      record { opening = opening; script = script; readable = readable; within = within; prints = same }
+  is-report text (Past opening script past readable first is) e = absurd cc
+  is-report text (First bad first is) e = absurd cc
 
   gives-report : (text : List ℕ) → IsReportOf all text → comes_to ≡ Ok text
   unfolding comes_to
   gives-report text r =
-      let opens = (law.made r.opening).1 r.opens in
-      let says = made r.opening.shape.nodes r.opening.begin_row (drop r.opening.begin_row all) r.script r.goes_on in
-      rw (opens, says, r.prints) refl
+      let opens = (law.made r.opening).1 r.readable.opens in
+      let says = made r.opening.shape.nodes r.opening.begin_row (drop r.opening.begin_row all) r.script r.readable.goes_on in
+      rw (opens, says, r.within, r.prints) refl
 
-  is-first-bad : (bad : BadRow) → comes_to ≡ Err (Bad bad) → IsFirstBadRow all bad
+  is-full : (block : ℕ) → Read → comes_to ≡ Err (BlockFull block) → IsPast all (TooManyFlows block)
+  is-full block (Text opening script readable within is) e = absurd cc
+  is-full block (Past opening script (TooManyFlows other) readable first is) e =
+      let same : other ≡ block = cc in
+      record { opening = opening; script = script; readable = readable; first = first ∙ ap (λ (b : ℕ). Some (TooManyFlows b)) same }
+  is-full block (Past opening script (TooManyRows other needed) readable first is) e = absurd cc
+  is-full block (First bad first is) e = absurd cc
+
+  is-rows : (block : ℕ) → Read → comes_to ≡ Err (RowsFull block) → (needed : ℕ) × IsPast all (TooManyRows block needed)
+  is-rows block (Text opening script readable within is) e = absurd cc
+  is-rows block (Past opening script (TooManyFlows other) readable first is) e = absurd cc
+  is-rows block (Past opening script (TooManyRows other needed) readable first is) e =
+      let same : other ≡ block = cc in
+      (needed, record { opening = opening; script = script; readable = readable; first = first ∙ ap (λ (b : ℕ). Some (TooManyRows b needed)) same })
+  is-rows block (First bad first is) e = absurd cc
+
+  gives-past : (past : PastLimit) → IsPast all past → comes_to ≡ Err (fault_of_limit past)
   unfolding comes_to
-  is-first-bad bad e = by (opening_of all) refl e
-    where
-      with_script : (opening : Opening) → opening_of all ≡ Ok opening → (o : Result (List Event) BadRow)
-          → script_of opening.shape.nodes opening.begin_row (drop opening.begin_row all) ≡ o → outcome_of_script opening o ≡ Err (Bad bad) → IsFirstBadRow all bad
-      with_script opening opens (Ok script) says h = cc h
-      with_script opening opens (Err other) says h =
-          let same : other ≡ bad = cc in
-          inr (opening, (law.made opening).0 opens, says-bad opening.shape.nodes opening.begin_row (drop opening.begin_row all) bad (says ∙ ap (λ b. Err b) same))
+  gives-past past r =
+      let opens = (law.made r.opening).1 r.readable.opens in
+      let says = made r.opening.shape.nodes r.opening.begin_row (drop r.opening.begin_row all) r.script r.readable.goes_on in
+      rw (opens, says, r.first) refl
 
-      by : (o : Result Opening BadRow) → opening_of all ≡ o → outcome_of_rows all o ≡ Err (Bad bad) → IsFirstBadRow all bad
-      by (Err other) opens h =
-          let same : other ≡ bad = cc in
-          inl ((law.bad bad).0 (opens ∙ ap (λ b. Err b) same))
-      by (Ok opening) opens h = with_script opening opens (script_of opening.shape.nodes opening.begin_row (drop opening.begin_row all)) refl h
+  is-first-bad : (bad : BadRow) → Read → comes_to ≡ Err (Bad bad) → IsFirstBadRow all bad
+  is-first-bad bad (Text opening script readable within is) e = absurd cc
+  is-first-bad bad (Past opening script (TooManyFlows other) readable first is) e = absurd cc
+  is-first-bad bad (Past opening script (TooManyRows other needed) readable first is) e = absurd cc
+  is-first-bad bad (First other first is) e =
+      let same : other ≡ bad = cc in
+      subst (IsFirstBadRow all) same first
 
   gives-bad : (bad : BadRow) → IsFirstBadRow all bad → comes_to ≡ Err (Bad bad)
   unfolding comes_to
@@ -178,7 +217,12 @@ module _ (all : List Row) (law : OpeningLaw all) where
 -- by the law of openings
 pub outcome_law : ((all : List Row) → OpeningLaw all) → (bytes : List ℕ) → OutcomeLaw bytes
 unfolding outcome comes_to
-outcome_law law bytes = record {
-  printed = λ text. (is-report (rows bytes) (law (rows bytes)) text, gives-report (rows bytes) (law (rows bytes)) text);
-  refused = λ bad. (is-first-bad (rows bytes) (law (rows bytes)) bad, gives-bad (rows bytes) (law (rows bytes)) bad);
-}
+outcome_law law bytes =
+    let all = rows bytes in
+    let seen = read all (law all) in
+    record {
+      printed = λ text. (is-report all (law all) text seen, gives-report all (law all) text);
+      refused = λ bad. (is-first-bad all (law all) bad seen, gives-bad all (law all) bad);
+      block_full = λ block. (is-full all (law all) block seen, gives-past all (law all) (TooManyFlows block));
+      rows_full = λ block. (is-rows all (law all) block seen, λ (past : (needed : ℕ) × IsPast all (TooManyRows block needed)). gives-past all (law all) (TooManyRows block past.0) past.1);
+    }

@@ -1,6 +1,8 @@
+mod Pushed
 mod Counts
 mod Lines
 mod Flows
 mod Scripts
-mod FirstBadFacts
-mod PathFacts
+mod Nodes
+pub mod PathFacts
+pub mod FirstBadFacts

@@ -1,21 +1,25 @@
 -- The replies to packets are paths.
-use Rattle.std.proofs.Common.{◌≡◌, ◌≢◌, ◌∙◌, ◌+◌, ◌<◌, ℕ, zero, suc, add-one, Bool, true, false, cond, List, [], ◌∷◌, get_or, Option, Some, None, refl, sym, ap, subst, arith, inl, inr, Contains}
-use Rattle.std.specs.Prelude.{AllPairs, ◌⊎◌}
-use Rattle.std.proofs.lemmas.Bool.{cases_order}
+use Rattle.std.proofs.Common.{◌≡◌, ◌∙◌, ◌+◌, ◌==◌, ◌<◌, ℕ, zero, suc, add-one, Bool, true, false, cond, List, [], ◌∷◌, get_or, Option, Some, None, Ok, refl, sym, ap, subst, arith, inl, inr, Contains}
+use Rattle.std.specs.Prelude.{All, ◌⊎◌, ◌&&◌}
+use Rattle.std.proofs.lemmas.Bool.{eqb-true}
 use Rattle.std.proofs.lemmas.List.{get_or_default}
 use Rattle.flow_types.specs.declared.key.FlowKey.{FlowKey}
 use Rattle.flow_types.specs.declared.record.Flow.{Flow}
 use Rattle.flow_types.specs.declared.record.Record.{Record}
-use Rattle.flow_reader.specs.Opening.{same_key}
+use Rattle.flow_types.specs.Size.{Size}
+use Rattle.csv_rows.specs.Rows.{rows}
+use Rattle.flow_reader.specs.Opening.{opening_of, same_key}
+use Rattle.flow_reader.specs.declared.opening.Opening.{Opening}
+use Rattle.cluster_replay.specs.Outcome.{opened}
 use Rattle.flow_reader.proofs.KeyFacts.{same_key-refl, same_key-true}
+use Rattle.group_search.specs.Records.{AreHandled}
+use Rattle.replica_shard.proofs.Below.{routed_below}
+use Rattle.replica_shard.specs.Routed.{ReachesHandlers, routed}
 use Rattle.cluster_replay.specs.declared.event.Event.{Event}
 use Rattle.cluster_replay.specs.declared.event.Event.TheVariants.{Packet}
-use Rattle.cluster_replay.specs.Path.{Knows, Path, ArePaths, AtOpening}
-use Rattle.cluster_replay.specs.Replies.{flow_after, flow_at, answer, replayed}
-
--- two flows with different keys
-abbrev Differ : Flow → Flow → Type 0
-Differ a b = a.key ≢ b.key
+use Rattle.cluster_replay.specs.Path.{Knows, Path, ArePaths, AtOpening, GoesByPaths, Route}
+use Rattle.cluster_replay.specs.Replies.{answer, is_handled, record_after, record_at, reply_from, reply_to, replayed}
+use Rattle.cluster_replay.specs.State.{State}
 
 -- one more flow before a list keeps what is in it
 contains-later : (first : Flow) (flows : List Flow) (flow : Flow) → Contains flows flow → Contains (first ∷ flows) flow
@@ -26,97 +30,96 @@ contains-cases : (first : Flow) (flows : List Flow) (flow : Flow) → Contains (
 contains-cases first flows flow (zero, within, is) = inl is
 contains-cases first flows flow (suc k, within, is) = inr (k, omega arith, is)
 
-module _ (key : FlowKey) where
-  -- a flow that is found stood there before, or is one of the flows with this key
-  found : (flows : List Flow) (there : Option Flow) (flow : Flow) → flow_after there flows key ≡ Some flow → (there ≡ Some flow) ⊎ ((flow.key ≡ key) × Contains flows flow)
-  found [] there flow e = inl e
-  found (first ∷ flows) there flow e = by (same_key first.key key) refl (found flows _ flow e)
+both : (a b : Bool) → (a && b) ≡ true → (a ≡ true) × (b ≡ true)
+both true b e = (refl, e)
+both false b e = absurd cc
+
+module _ (node : ℕ) (key : FlowKey) where
+  flow_with : Record → Flow
+  flow_with info = record { key = key; node = node; info = info }
+
+  -- a flow of this key at this node
+  handled_is : (flow : Flow) → is_handled node key flow ≡ true → flow ≡ flow_with flow.info
+  unfolding flow_with
+  handled_is flow is =
+      let tests = both (flow.node == node) (same_key flow.key key) is in
+      let same_node = eqb-true flow.node node tests.0 in
+      let same = same_key-true flow.key key tests.1 in
+      λ i. record { key = same i; node = same_node i; info = flow.info }
+
+  handled_with : (info : Record) → is_handled node key (flow_with info) ≡ true
+  unfolding flow_with
+  handled_with info = let keys = same_key-refl key in grind (arith, keys)
+
+  -- a record that is found stood there before, or is that of a flow with this key at this node
+  found : (flows : List Flow) (there : Option Record) (info : Record) → record_after node there flows key ≡ Some info → (there ≡ Some info) ⊎ Contains flows (flow_with info)
+  found [] there info e = inl e
+  found (first ∷ flows) there info e = by (is_handled node key first) refl (found flows _ info e)
     where
-      by : (b : Bool) → same_key first.key key ≡ b → (cond b (Some first) there ≡ Some flow) ⊎ ((flow.key ≡ key) × Contains flows flow)
-          → (there ≡ Some flow) ⊎ ((flow.key ≡ key) × Contains (first ∷ flows) flow)
-      by b e (inr (same, within)) = inr (same, contains-later first flows flow within)
+      by : (b : Bool) → is_handled node key first ≡ b → (cond b (Some first.info) there ≡ Some info) ⊎ Contains flows (flow_with info)
+          → (there ≡ Some info) ⊎ Contains (first ∷ flows) (flow_with info)
+      by b e (inr within) = inr (contains-later first flows (flow_with info) within)
       by true e (inl is) =
-          let same : first ≡ flow = cc in
-          inr (ap (λ f. f.key) (sym same) ∙ same_key-true first.key key e, (0, omega arith, same))
+          let same : first.info ≡ info = cc in
+          inr (0, omega arith, handled_is first e ∙ ap flow_with same)
       by false e (inl is) = inl is
 
-  -- where none is found, none of the flows has this key
-  missing : (flows : List Flow) (there : Option Flow) → flow_after there flows key ≡ None → (there ≡ None) × ((flow : Flow) → Contains flows flow → flow.key ≢ key)
-  missing [] there e = (e, λ flow there. absurd (omega (arith, there.1)))
-  missing (first ∷ flows) there e = by (same_key first.key key) refl (missing flows _ e)
+  -- where none is found, none of the flows has this key at this node
+  missing : (flows : List Flow) (there : Option Record) → record_after node there flows key ≡ None → (there ≡ None) × ((info : Record) → ¬ Contains flows (flow_with info))
+  missing [] there e = (e, λ info there. absurd (omega (arith, there.1)))
+  missing (first ∷ flows) there e = by (is_handled node key first) refl (missing flows _ e)
     where
-      by : (b : Bool) → same_key first.key key ≡ b → (cond b (Some first) there ≡ None) × ((flow : Flow) → Contains flows flow → flow.key ≢ key)
-          → (there ≡ None) × ((flow : Flow) → Contains (first ∷ flows) flow → flow.key ≢ key)
+      by : (b : Bool) → is_handled node key first ≡ b → (cond b (Some first.info) there ≡ None) × ((info : Record) → ¬ Contains flows (flow_with info))
+          → (there ≡ None) × ((info : Record) → ¬ Contains (first ∷ flows) (flow_with info))
       by true e rest = let none = rest.0 in cc
-      by false e rest = (rest.0, λ flow within same. other flow (contains-cases first flows flow within) same)
+      by false e rest = (rest.0, λ info within. other info (contains-cases first flows (flow_with info) within))
         where
-          other : (flow : Flow) → (first ≡ flow) ⊎ Contains flows flow → flow.key ≢ key
-          other flow (inl is) same =
-              let sure = same_key-refl key in
-              let at_key : first.key ≡ key = ap (λ f. f.key) is ∙ same in
-              let same_then : same_key first.key key ≡ same_key key key = ap (λ k. same_key k key) at_key in
+          other : (info : Record) → (first ≡ flow_with info) ⊎ Contains flows (flow_with info) → ⊥
+          other info (inl is) =
+              let sure = handled_with info in
+              let same : is_handled node key first ≡ is_handled node key (flow_with info) = ap (is_handled node key) is in
               cc
-          other flow (inr later) same = rest.1 flow later same
+          other info (inr later) = rest.1 info later
 
--- of flows with distinct keys no two have one key
-unique : (flows : List Flow) → AllPairs Differ flows → (a b : Flow) → Contains flows a → Contains flows b → a.key ≡ b.key → a ≡ b
-unique flows apart a b (i, below_i, is_a) (j, below_j, is_b) same = by (cases_order i j)
-  where
-    key_a : (d : Flow) → (get_or flows i d).key ≡ a.key
-    key_a d = ap (λ f. f.key) (get_or_default flows i d a below_i ∙ is_a)
-
-    key_b : (d : Flow) → (get_or flows j d).key ≡ b.key
-    key_b d = ap (λ f. f.key) (get_or_default flows j d b below_j ∙ is_b)
-
-    by : (i ≡ j) ⊎ ((i < j) ⊎ (j < i)) → a ≡ b
-    by (inl e) = sym is_a ∙ get_or_default flows i a b below_i ∙ ap (λ k. get_or flows k b) e ∙ is_b
-    by (inr (inl before)) = absurd (apart i j a before below_j (key_a a ∙ same ∙ sym (key_b a)))
-    by (inr (inr after)) = absurd (apart j i a after below_i (key_b a ∙ sym same ∙ sym (key_a a)))
-
-module _ (nodes : ℕ) (flows : List Flow) (some_node : 0 < nodes) (apart : AllPairs Differ flows) where
+module _ (size : Size) (flows : List Flow) (handled : AreHandled size.nodes flows) (reached : ReachesHandlers size flows) (key : FlowKey) where
   now : AtOpening flows 0 flows
   now = record { first = refl; same = refl }
 
-  known-path : (key : FlowKey) (flow : Flow) → flow.key ≡ key → Contains flows flow → Path nodes (AtOpening flows) key (answer (Some flow))
-  known-path key flow same within =
-      let knows : Knows flows key flow.node flow.info = subst (Contains flows) (λ i. record { key = same i; node = flow.node; info = flow.info }) within in (
-        flows,
-        flows,
-        now,
-        now,
-        record {
-          known = λ node info other. ap (λ f. Some f.node) (unique flows apart flow (record { key = key; node = node; info = info }) within other same);
-          unknown = λ none. absurd (none flow.node flow.info knows);
-        },
-        knows,
-      )
+  -- a known flow's key is sent to its handler
+  known_to : (node : ℕ) (info : Record) → Knows flows key node info → routed size flows key ≡ Some node
+  known_to node info (k, within, is) =
+      let flow : Flow = record { key = key; node = node; info = info } in
+      let sent = reached k flow within in
+      subst (λ (f : Flow). routed size flows f.key ≡ Some f.node) is sent
 
-  unknown-path : (key : FlowKey) → ((flow : Flow) → Contains flows flow → flow.key ≢ key) → Path nodes (AtOpening flows) key (answer None)
-  unknown-path key none =
-      let knows_none : (node : ℕ) (info : Record) → ¬ Knows flows key node info = λ node info knows. none _ knows refl in (
-        flows,
-        flows,
-        now,
-        now,
-        record { known = λ node info knows. absurd (knows_none node info knows); unknown = λ none. some_node },
-        λ info. knows_none 0 info,
-      )
+  route : (to : Option ℕ) → routed size flows key ≡ to → Route size.nodes flows key to
+  route None is = record { known = λ node info knows. sym is ∙ known_to node info knows; unknown = λ none. tt }
+  route (Some to) is = record { known = λ node info knows. sym is ∙ known_to node info knows; unknown = λ none. routed_below size flows key to handled is }
 
-  reply-path : (key : FlowKey) → Path nodes (AtOpening flows) key (answer (flow_at flows key))
-  unfolding flow_at
-  reply-path key = by (flow_after None flows key) refl
+  answered : (node : ℕ) (said : Option Record) → record_at node flows key ≡ said → routed size flows key ≡ Some node → Path size.nodes (AtOpening flows) key (answer node 0 0 said)
+  unfolding record_at flow_with
+  answered node (Some info) is sent = (flows, flows, now, now, route (Some node) sent, known (found node key flows None info is))
     where
-      at : (flow : Flow) → (◌≡◌ {A = Option Flow} None (Some flow)) ⊎ ((flow.key ≡ key) × Contains flows flow) → Path nodes (AtOpening flows) key (answer (Some flow))
-      at flow (inl never) = absurd cc
-      at flow (inr (same, within)) = known-path key flow same within
+      known : (◌≡◌ {A = Option Record} None (Some info)) ⊎ Contains flows (flow_with node key info) → Knows flows key node info
+      known (inl never) = absurd cc
+      known (inr within) = within
+  answered node None is sent = (flows, flows, now, now, route (Some node) sent, (missing node key flows None is).1)
 
-      by : (o : Option Flow) → flow_after None flows key ≡ o → Path nodes (AtOpening flows) key (answer o)
-      by (Some flow) e = at flow (found key flows None flow e)
-      by None e = unknown-path key (missing key flows None e).1
+  reply-path : (to : Option ℕ) → routed size flows key ≡ to → Path size.nodes (AtOpening flows) key (reply_from flows key to)
+  reply-path (Some node) sent = answered node (record_at node flows key) refl sent
+  reply-path None sent = (flows, now, route None sent)
 
 -- so each packet of a script has a path
-pub replayed_paths : (nodes : ℕ) (flows : List Flow) (script : List Event) → 0 < nodes → AllPairs (λ a b. a.key ≢ b.key) flows
-    → ArePaths nodes (AtOpening flows) script (replayed flows script)
-unfolding replayed
-replayed_paths nodes flows [] some_node apart = tt
-replayed_paths nodes flows (Packet ingress key ∷ script) some_node apart = (reply-path nodes flows some_node apart key, replayed_paths nodes flows script some_node apart)
+pub replayed_paths : (state : State) (script : List Event) → AreHandled state.size.nodes state.flows → ReachesHandlers state.size state.flows
+    → ArePaths state.size.nodes (AtOpening state.flows) script (replayed state script)
+unfolding replayed reply_to
+replayed_paths state [] handled reached = tt
+replayed_paths state (Packet ingress key ∷ script) handled reached =
+    (reply-path state.size state.flows handled reached key (routed state.size state.flows key) refl, replayed_paths state script handled reached)
+
+-- so it is for every script over an opening that was read and built
+pub goes_by_paths : (bytes : List ℕ) (opening : Opening) → opening_of (rows bytes) ≡ Ok opening → AreHandled opening.shape.nodes opening.flows
+    → ReachesHandlers opening.shape opening.flows → GoesByPaths bytes
+goes_by_paths bytes opening opens handled reached = λ other script also.
+    let same : opening ≡ other = cc in
+    subst (λ (o : Opening). ArePaths o.shape.nodes (AtOpening o.flows) script (replayed (opened o) script)) same (replayed_paths (opened opening) script handled reached)

@@ -1,12 +1,14 @@
 -- A script with one more row.
-use Rattle.std.proofs.Common.{ℕ, ◌≡◌, ◌∙◌, ◌+◌, ◌<◌, Bool, true, false, cond, List, [], ◌++◌, length, drop, drop-cons, add-one, Option, is_none, option_to_list, Result, Ok, Err, ap, sym, subst, refl}
+use Rattle.std.proofs.Common.{ℕ, ◌≡◌, ◌∙◌, ◌+◌, ◌<◌, Bool, true, false, cond, List, [], ◌++◌, length, drop, drop-cons, add-one, append-nil, Option, Some, None, is_none, option_to_list, Result, Ok, Err, ap, sym, subst, refl}
+use Rattle.std.specs.Prelude.{All, IfSome}
 use Rattle.csv_rows.specs.Rows.{Row, TakesRow}
 use Rattle.flow_types.specs.declared.why.Why.{Why}
 use Rattle.flow_types.specs.declared.why.Why.TheVariants as why
 use Rattle.flow_types.specs.declared.why.BadRow.{BadRow}
 use Rattle.flow_reader.specs.Opening.{bad_row}
 use Rattle.cluster_replay.specs.declared.event.Event.{Event}
-use Rattle.cluster_replay.specs.Script.{script_next, script_from, script_of, row_after}
+use Rattle.cluster_replay.specs.Script.{IsFormed, script_next, script_from, script_of, row_after}
+use Rattle.cluster_replay.proofs.Pushed.{each_pushed}
 
 -- one more row skipped
 pub row_skipped : (found : Bool) (all before after : List Row) (row : Row) (i : ℕ) → i < length all → before ≡ drop i all → TakesRow found before row after → after ≡ drop (i + 1) all
@@ -57,3 +59,9 @@ module _ (nodes number : ℕ) (ended : Bool) (events : List Event) (before after
     -- no row is left, and there was no `end`
     pub lacks_end : ended ≡ false → whole ≡ Err (bad_row number why.NoEnd)
     lacks_end is = at_end ∙ ap (λ e. cond e (Ok events) (Err (bad_row number why.NoEnd))) is
+
+-- what a row says may stand in the script, as all before it may
+pub formed_more : (nodes : ℕ) (events : List Event) (said : Option Event) (events_then : List Event) → All (IsFormed nodes) events → IfSome said (IsFormed nodes)
+    → events_then ≡ events ++ option_to_list said → All (IsFormed nodes) events_then
+formed_more nodes events None events_then formed one is = rw (is, append-nil events) formed
+formed_more nodes events (Some event) events_then formed one is = rw is (λ k d low. each_pushed (λ (i : ℕ) (e : Event). IsFormed nodes e) events event formed one k d low)

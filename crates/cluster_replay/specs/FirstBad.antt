@@ -6,9 +6,11 @@ use Rattle.flow_types.specs.declared.why.Why.{Why}
 use Rattle.flow_types.specs.declared.why.Why.TheVariants as why
 use Rattle.flow_reader.specs.FirstBad.{IsFirstBad, IsOpening}
 use Rattle.flow_reader.specs.declared.opening.Opening.{Opening}
+use Rattle.group_search.specs.Build.{PastLimit, past_limit}
+use Rattle.group_search.specs.Build.PastLimit.{TooManyFlows, TooManyRows}
 use Rattle.cluster_replay.specs.declared.event.Event.{Event}
-use Rattle.cluster_replay.specs.declared.fault.InputFault.TheVariants.{Bad}
-use Rattle.cluster_replay.specs.Outcome.{outcome}
+use Rattle.cluster_replay.specs.declared.fault.InputFault.TheVariants.{Bad, BlockFull, RowsFull}
+use Rattle.cluster_replay.specs.Outcome.{opened, outcome}
 use Rattle.cluster_replay.specs.Replies.{replayed}
 use Rattle.cluster_replay.specs.Report.{report}
 use Rattle.cluster_replay.specs.Script.{script_row}
@@ -58,15 +60,30 @@ IsFirstBadRow all bad =
     IsFirstBad all bad
     ⊎ ((opening : Opening) × IsOpening all opening × IsFirstBadAfter opening.shape.nodes opening.begin_row (drop opening.begin_row all) bad)
 
--- no row is bad, and this is the report of the script and of its replies
+-- no row is bad, and the rows say this opening and this script
+pub record AreReadable (all : List Row) (opening : Opening) (script : List Event) : Type 0 where
+  pub opens : IsOpening all opening
+  pub goes_on : IsScript opening.shape.nodes (drop opening.begin_row all) script
+
+-- no row is bad, no block is past a limit, and this is the report of the script and of its replies
 pub record IsReportOf (all : List Row) (text : List ℕ) : Type 0 where
   pub opening : Opening
   pub script : List Event
-  pub opens : IsOpening all opening
-  pub goes_on : IsScript opening.shape.nodes (drop opening.begin_row all) script
-  pub prints : text ≡ report script (replayed opening.flows script)
+  pub readable : AreReadable all opening script
+  pub within : past_limit opening.shape opening.flows ≡ None
+  pub prints : text ≡ report script (replayed (opened opening) script)
 
--- an input comes to a text exactly where that is its report, and to a bad row exactly where that is its first
+-- no row is bad, and the first block that is past a limit is past this one
+pub record IsPast (all : List Row) (past : PastLimit) : Type 0 where
+  pub opening : Opening
+  pub script : List Event
+  pub readable : AreReadable all opening script
+  pub first : past_limit opening.shape opening.flows ≡ Some past
+
+-- an input comes to a text exactly where that is its report, to a bad row exactly where that is its first, and to a block
+-- exactly where no row is bad and that is its first block past a limit
 pub record OutcomeLaw (bytes : List ℕ) : Type 0 where
   pub printed : (text : List ℕ) → (outcome bytes ≡ Ok text) ↔ IsReportOf (rows bytes) text
   pub refused : (bad : BadRow) → (outcome bytes ≡ Err (Bad bad)) ↔ IsFirstBadRow (rows bytes) bad
+  pub block_full : (block : ℕ) → (outcome bytes ≡ Err (BlockFull block)) ↔ IsPast (rows bytes) (TooManyFlows block)
+  pub rows_full : (block : ℕ) → (outcome bytes ≡ Err (RowsFull block)) ↔ ((needed : ℕ) × IsPast (rows bytes) (TooManyRows block needed))

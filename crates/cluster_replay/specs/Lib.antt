@@ -1,7 +1,10 @@
 pub mod Report
 pub mod Replies
-pub mod Directory
+pub mod State
+pub mod Tables
+pub mod Cluster
+pub mod Limits
 pub mod Script
 pub mod Outcome
-pub mod FirstBad
 pub mod Path
+pub mod FirstBad

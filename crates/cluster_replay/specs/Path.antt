@@ -1,9 +1,14 @@
 -- The paths that a packet may take. Its ingress sends it by one version of its flow's group, and the node that it is sent
 -- to answers by one version of that group.
-use Rattle.std.specs.Prelude.{◌≡◌, ℕ, ◌<◌, List, [], ◌∷◌, Contains, Option, Some, None, IfSome}
+use Rattle.std.specs.Prelude.{◌≡◌, ℕ, ◌<◌, List, [], ◌∷◌, Contains, Option, Some, None, Ok, IfSome}
 use Rattle.flow_types.specs.declared.key.FlowKey.{FlowKey}
 use Rattle.flow_types.specs.declared.record.Flow.{Flow}
 use Rattle.flow_types.specs.declared.record.Record.{Record}
+use Rattle.csv_rows.specs.Rows.{rows}
+use Rattle.flow_reader.specs.Opening.{opening_of}
+use Rattle.flow_reader.specs.declared.opening.Opening.{Opening}
+use Rattle.cluster_replay.specs.Outcome.{opened}
+use Rattle.cluster_replay.specs.Replies.{replayed}
 use Rattle.cluster_replay.specs.declared.event.Event.{Event}
 use Rattle.cluster_replay.specs.declared.event.Event.TheVariants.{Packet}
 use Rattle.cluster_replay.specs.declared.reply.Reply.{Reply}
@@ -42,3 +47,8 @@ ArePaths nodes At _ _ = ⊥
 pub record AtOpening (flows : List Flow) (version : ℕ) (known : List Flow) : Type 0 where
   pub first : version ≡ 0
   pub same : known ≡ flows
+
+-- each packet of any script over the bytes' opening has a path as its reply
+abbrev pub GoesByPaths : List ℕ → Type 0
+GoesByPaths bytes = (opening : Opening) (script : List Event) → opening_of (rows bytes) ≡ Ok opening
+    → ArePaths opening.shape.nodes (AtOpening opening.flows) script (replayed (opened opening) script)

@@ -1,31 +1,43 @@
--- What each event of a script is answered, by the flows of the opening.
-use Rattle.std.specs.Prelude.{List, [], ◌∷◌, map, Option, Some, None, if◌then◌else◌}
+-- What each event of a script is answered by a cluster that no update has changed.
+use Rattle.std.specs.Prelude.{ℕ, ◌==◌, ◌&&◌, Bool, List, [], ◌∷◌, map, Option, Some, None, if◌then◌else◌}
 use Rattle.flow_types.specs.declared.key.FlowKey.{FlowKey}
 use Rattle.flow_types.specs.declared.record.Flow.{Flow}
+use Rattle.flow_types.specs.declared.record.Record.{Record}
 use Rattle.flow_reader.specs.Opening.{same_key}
+use Rattle.replica_shard.specs.Routed.{routed}
+use Rattle.cluster_replay.specs.State.{State}
 use Rattle.cluster_replay.specs.declared.event.Event.{Event}
 use Rattle.cluster_replay.specs.declared.event.Event.TheVariants.{Packet}
 use Rattle.cluster_replay.specs.declared.reply.Reply.{Reply}
-use Rattle.cluster_replay.specs.declared.reply.Reply.TheVariants.{Found, Unknown}
+use Rattle.cluster_replay.specs.declared.reply.Reply.TheVariants.{Found, Unknown, Nowhere}
 
--- the flow at a key, once more flows are put at theirs
-abbrev pub flow_after : Option Flow → List Flow → FlowKey → Option Flow
-flow_after there [] key = there
-flow_after there (flow ∷ flows) key = flow_after (if same_key flow.key key then Some flow else there) flows key
+-- the node handles the flow, and this is the flow's key
+abbrev pub is_handled : (node : ℕ) → FlowKey → Flow → Bool
+is_handled node key flow = (flow.node == node) && same_key flow.key key
 
--- the flow at a key, where each of these flows in turn is put at its own key
-unfoldable pub flow_at : List Flow → FlowKey → Option Flow
-flow_at flows key = flow_after None flows key
+-- the record at a key, once the records of more of a node's flows are put at their keys
+abbrev pub record_after : (node : ℕ) → Option Record → List Flow → FlowKey → Option Record
+record_after node there [] key = there
+record_after node there (flow ∷ flows) key = record_after node (if is_handled node key flow then Some flow.info else there) flows key
 
--- the answer of a table that nobody has changed: the flow and its record, or that there is none
-abbrev pub answer : Option Flow → Reply
-answer (Some flow) = Found flow.node 0 0 flow.info
-answer None = Unknown 0 0 0
+-- the record that a node has of a key: that of the flow with this key which it handles
+unfoldable pub record_at : (node : ℕ) → List Flow → FlowKey → Option Record
+record_at node flows key = record_after node None flows key
 
--- an event's reply, where the flows stand at these keys
-abbrev pub reply_by : (FlowKey → Option Flow) → Event → Reply
-reply_by at (Packet ingress key) = answer (at key)
+-- a node's answer, by its record of the key, at these versions of the key's group
+abbrev pub answer : (node seen fib : ℕ) → Option Record → Reply
+answer node seen fib (Some info) = Found node seen fib info
+answer node seen fib None = Unknown node seen fib
 
--- the replies to a script over these flows
-unfoldable pub replayed : List Flow → List Event → List Reply
-replayed flows script = map (reply_by (flow_at flows)) script
+-- the reply to a packet that is sent to this node, or nowhere
+abbrev pub reply_from : List Flow → FlowKey → (sent : Option ℕ) → Reply
+reply_from flows key (Some node) = answer node 0 0 (record_at node flows key)
+reply_from flows key None = Nowhere 0
+
+-- an event's reply: its ingress sends a packet where the flows do
+unfoldable pub reply_to : State → Event → Reply
+reply_to state (Packet ingress key) = reply_from state.flows key (routed state.size state.flows key)
+
+-- the replies to a script
+unfoldable pub replayed : State → List Event → List Reply
+replayed state script = map (reply_to state) script

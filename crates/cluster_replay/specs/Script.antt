@@ -1,5 +1,5 @@
 -- The rows after `begin`, as the events of a script.
-use Rattle.std.specs.Prelude.{◌≡◌, ℕ, ◌+◌, Bool, true, false, if◌then◌else◌, List, [], ◌∷◌, ◌++◌, codes, Option, Some, None, is_none, option_to_list, Result, Ok, Err, Vec}
+use Rattle.std.specs.Prelude.{◌≡◌, ℕ, ◌+◌, ◌<◌, Bool, true, false, if◌then◌else◌, List, [], ◌∷◌, ◌++◌, codes, Option, Some, None, is_none, option_to_list, Result, Ok, Err, Vec}
 use Rattle.std.specs.Global.{Global}
 use Rattle.csv_rows.specs.Rows.{Row, field_at}
 use Rattle.flow_reader.specs.Fields.{and_then, is_kind, node_field, key_at}
@@ -51,3 +51,7 @@ abbrev pub Answers : Result (List Event) BadRow → Result (Vec Event Global) Ro
 Answers said (Ok events) = said ≡ Ok events.items
 Answers said (Err (Bad bad)) = said ≡ Err bad
 Answers said (Err OutOfMemory) = Unit {0}
+
+-- the event may stand in the script of a cluster of so many nodes: its ingress is one of them
+abbrev pub IsFormed : (nodes : ℕ) → Event → Type 0
+IsFormed nodes (Packet ingress key) = ingress < nodes

@@ -1,39 +1,25 @@
-ghost use Rattle.std.specs.Prelude.{◌≡◌, IfOk, map};
-ghost use Rattle.cluster_replay.specs.Directory.{flow_in};
-ghost use Rattle.cluster_replay.specs.Replies.{reply_by, replayed};
+ghost use Rattle.std.specs.Prelude.{◌≡◌, All, IfOk};
+ghost use Rattle.cluster_replay.specs.Replies.{replayed};
+ghost use Rattle.cluster_replay.specs.Script.{IsFormed};
 
-use crate::directory::Directory;
+use crate::cluster::Cluster;
 use crate::event::Event;
 use crate::reply::Reply;
-use flow_types::Flow;
 use out_of_memory::OutOfMemory;
-use std::alloc::{AllocError, Global};
+use std::alloc::Global;
 
-/// The replies to a script, one for each event, over these flows.
-#[tactic(auto, unfolding(crate::specs::Replies::replayed))]
-pub fn replies(alloc: Global, flows: &[Flow], script: &[Event]) -> Result<Vec<Reply>, OutOfMemory>
-    ensures { IfOk result (λ made. made.items ≡ replayed flows.now script.now) }
-{
-    let directory = Directory::of(alloc, flows)?;
-    Ok(replies_from(alloc, &directory, script)?)
-}
-
-fn replies_from(
+/// The replies of a cluster to a script, one for each event.
+pub fn replies(
     alloc: Global,
-    directory: &Directory,
+    cluster: &mut Cluster,
     script: &[Event],
-) -> Result<Vec<Reply>, AllocError>
-    ensures { IfOk result (λ made. made.items ≡ map (reply_by (flow_in directory.now)) script.now) }
+) -> Result<Vec<Reply>, OutOfMemory>
+    requires { All (IsFormed cluster.old.size.nodes) script.now }
+    ensures { IfOk result (λ made. made.items ≡ replayed cluster.old script.now) }
 {
-    script
-        .iter()
-        .map(|event| reply_to(directory, event))
-        .collect(alloc)
-}
-
-fn reply_to(directory: &Directory, event: &Event) -> Reply
-    ensures { result ≡ reply_by (flow_in directory.now) event.now }
-{
-    let Event::Packet { key, .. } = event;
-    directory.reply(key)
+    let mut replies = Vec::with_capacity(alloc, script.len())?;
+    'events: for event in script {
+        replies.push(cluster.handle(event)?)?;
+    }
+    Ok(replies)
 }

@@ -1,12 +1,24 @@
 use flow_reader::RowRefused;
 use flow_types::BadRow;
 use out_of_memory::OutOfMemory;
+use setsep_build::BuildRefused;
 
 /// Why an input has no output.
 #[derive(Clone, Copy, Debug, PartialEq, Eq)]
 pub enum InputFault {
     /// The first row that breaks a rule.
     Bad(BadRow),
+    /// No row breaks a rule, and this is the first block that is past a limit: it has more than 1,536 flows.
+    BlockFull {
+        /// The block.
+        block: u16,
+    },
+    /// No row breaks a rule, and this is the first block that is past a limit: its flows that no indexes serve need more
+    /// than 64 rows.
+    RowsFull {
+        /// The block.
+        block: u16,
+    },
     /// Memory that the call asked for was not there.
     OutOfMemory,
 }
@@ -33,5 +45,20 @@ impl From<OutOfMemory> for InputFault {
 
     fn from(_error: OutOfMemory) -> InputFault {
         InputFault::OutOfMemory
+    }
+}
+
+impl From<BuildRefused> for InputFault {
+    ghost use Rattle.std.specs.Prelude.{◌≡◌};
+    ghost use Rattle.cluster_replay.specs.Limits.{fault_of_build};
+
+    ghost from_gives = { λ refused fault. fault ≡ fault_of_build refused };
+
+    fn from(refused: BuildRefused) -> InputFault {
+        match refused {
+            BuildRefused::BlockFull { block } => InputFault::BlockFull { block },
+            BuildRefused::RowsFull { block, .. } => InputFault::RowsFull { block },
+            BuildRefused::OutOfMemory => InputFault::OutOfMemory,
+        }
     }
 }

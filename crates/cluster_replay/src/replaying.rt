@@ -1,7 +1,9 @@
-ghost use Rattle.std.specs.Prelude.{◌≤◌, length};
+ghost use Rattle.std.specs.Prelude.{◌≤◌, OnOk, length};
 ghost use Rattle.cluster_replay.specs.Outcome.{Gives, outcome};
+ghost use Rattle.cluster_replay.specs.Path.{GoesByPaths};
 
 use crate::answering::replies;
+use crate::cluster::open;
 use crate::fault::InputFault;
 use crate::reporting::report;
 use crate::script::read_script;
@@ -9,9 +11,10 @@ use flow_reader::{MOST_OCTETS, read_opening};
 use std::alloc::Global;
 use std::thread::Threads;
 
-/// The printed run of an input: the rows up to `begin` are read, then the script, each event gets its reply, and the
-/// report prints them. The first row that breaks a rule is the fault.
-#[tactic(auto, using(crate::proofs::Flows::length_replayed), unfolding(crate::specs::Outcome::outcome))]
+/// The printed run of an input: the rows up to `begin` are read, then the script, the table is built, each event gets its
+/// reply, and the report prints them. The fault is the first row that breaks a rule, or else the first block that is past a
+/// limit.
+#[tactic(auto, using(crate::proofs::Flows::length_replayed, crate::proofs::PathFacts::goes_by_paths), unfolding(crate::specs::Outcome::outcome))]
 pub fn replay<R: Threads>(
     rt: &R,
     alloc: Global,
@@ -22,9 +25,14 @@ pub fn replay<R: Threads>(
     requires few_workers { workers ≤ 64 }
     requires limit { length bytes.now ≤ MOST_OCTETS }
     ensures gives { Gives result (outcome bytes.now) }
+    ensures paths { OnOk result (GoesByPaths bytes.now) }
 {
     let opening = read_opening(alloc, bytes)?;
     let script = read_script(alloc, bytes, opening.begin_row, opening.shape)?;
-    let replies = replies(alloc, opening.flows.as_slice(), script.as_slice())?;
+    let mut cluster = match open(rt, alloc, &opening, workers) {
+        Ok(cluster) => cluster,
+        Err(fault) => return Err(fault),
+    };
+    let replies = replies(alloc, &mut cluster, script.as_slice())?;
     Ok(report(alloc, script.as_slice(), replies.as_slice())?)
 }

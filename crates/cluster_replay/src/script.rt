@@ -1,8 +1,8 @@
-ghost use Rattle.std.specs.Prelude.{◌≡◌, ◌+◌, ◌<◌, ◌≤◌, ◌^◌, length, drop, ◌++◌, is_none, option_to_list, IfOk, OnOk};
+ghost use Rattle.std.specs.Prelude.{◌≡◌, ◌+◌, ◌<◌, ◌≤◌, ◌^◌, All, length, drop, ◌++◌, is_none, option_to_list, IfOk, IfSome, OnOk};
 ghost use Rattle.csv_rows.specs.Rows.{fields_of, rows};
 ghost use Rattle.csv_rows.specs.Reading.{IsReading, rows_left};
 ghost use Rattle.flow_reader.specs.Opening.{bad_row};
-ghost use Rattle.cluster_replay.specs.Script.{Answers, packet_fields, row_after, script_of, script_row};
+ghost use Rattle.cluster_replay.specs.Script.{Answers, IsFormed, packet_fields, row_after, script_of, script_row};
 
 use crate::event::Event;
 use csv_rows::{ByteRecord, RowReader, field};
@@ -20,7 +20,8 @@ pub fn read_script(
 ) -> Result<Vec<Event>, RowRefused>
     requires limit { length bytes.now ≤ MOST_OCTETS }
     requires begun { begin_row ≤ length (rows bytes.now) }
-    ensures { Answers (script_of shape.nodes begin_row (drop begin_row (rows bytes.now))) result }
+    ensures says { Answers (script_of shape.nodes begin_row (drop begin_row (rows bytes.now))) result }
+    ensures formed { IfOk result (λ events. All (IsFormed shape.nodes) events.items) }
 {
     let mut reader = RowReader::new(alloc, bytes);
     skip_rows(alloc, &mut reader, begin_row)?;
@@ -51,7 +52,8 @@ fn read_rows(
 ) -> Result<Vec<Event>, RowRefused>
     requires reading { IsReading reader }
     requires few { begin_row + length (rows_left reader) < 2 ^ 31 }
-    ensures { Answers (script_of nodes begin_row (rows_left reader.entry)) result }
+    ensures says { Answers (script_of nodes begin_row (rows_left reader.entry)) result }
+    ensures formed { IfOk result (λ events. All (IsFormed nodes) events.items) }
 {
     let mut events = Vec::new(alloc);
     let mut ended = false;
@@ -92,7 +94,8 @@ fn refusal(row: u32, why: Why) -> RowRefused
 
 /// What a row says of a script that has ended or not.
 fn row_after(ended: bool, nodes: u16, row: &ByteRecord) -> Result<Option<Event>, Why>
-    ensures { result ≡ row_after ended nodes (fields_of row.now) }
+    ensures says { result ≡ row_after ended nodes (fields_of row.now) }
+    ensures formed { IfOk result (λ said. IfSome said (IsFormed nodes)) }
 {
     if ended {
         return Err(Why::AfterEnd);
@@ -103,7 +106,8 @@ fn row_after(ended: bool, nodes: u16, row: &ByteRecord) -> Result<Option<Event>,
 /// What a row says by itself: an event, or by `None` that the script ends.
 #[tactic(auto, unfolding(crate::specs::Script::script_row))]
 fn script_row(nodes: u16, row: &ByteRecord) -> Result<Option<Event>, Why>
-    ensures { result ≡ script_row nodes (fields_of row.now) }
+    ensures says { result ≡ script_row nodes (fields_of row.now) }
+    ensures formed { IfOk result (λ said. IfSome said (IsFormed nodes)) }
 {
     if is_kind(row, b"packet") {
         if row.len() != 7 {
@@ -122,7 +126,8 @@ fn script_row(nodes: u16, row: &ByteRecord) -> Result<Option<Event>, Why>
 
 #[tactic(auto, unfolding(crate::specs::Script::packet_fields))]
 fn packet_fields(nodes: u16, row: &ByteRecord) -> Result<Option<Event>, Why>
-    ensures { result ≡ packet_fields nodes (fields_of row.now) }
+    ensures says { result ≡ packet_fields nodes (fields_of row.now) }
+    ensures formed { IfOk result (λ said. IfSome said (IsFormed nodes)) }
 {
     let ingress = node_field(field(row, 1), nodes)?;
     let key = key_at(row, 2)?;

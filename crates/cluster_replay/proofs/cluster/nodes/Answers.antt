@@ -1,0 +1,18 @@
+use Rattle.std.proofs.Common.{◌≡◌, [], ◌∷◌, ◌++◌, ℕ, length, sym, subst, arith, rules, length-append}
+use Rattle.cluster_replay.specs.Cluster.{IsNode}
+use Rattle.cluster_replay.specs.declared.node.Node.{Node}
+use Rattle.cluster_replay.proofs.Pushed.{each_pushed}
+use Rattle.cluster_replay.proofs.cluster.nodes.Goals as goal
+
+pub numbers-preserved : goal.numbers-preserved
+numbers-preserved c =
+    let nodes = c.numbers.nodes.items in
+    let new = c.in_ok-open.field-0 in
+    let pushed : c.push.new.self.items ≡ nodes ++ new ∷ [] = search rules in
+    let count = c.numbers.invariant.count in
+    rw pushed (record {
+      count = omega (arith, length-append nodes (new ∷ []));
+      each = λ i d low.
+          each_pushed (λ (i : ℕ) (node : Node). IsNode c.args.shape c.args.flows.now i node) nodes new c.numbers.invariant.each
+          (subst (λ (i : ℕ). IsNode c.args.shape c.args.flows.now i new) (sym count) c.in_ok-open.ensures) i d low;
+    })
