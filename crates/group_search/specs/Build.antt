@@ -7,7 +7,7 @@ use Rattle.flow_types.specs.Size.{Size, value_bits}
 use Rattle.group_search.specs.declared.entry.Entry.{Entry}
 use Rattle.group_search.specs.declared.limits.TheConstants.{MOST_ENTRIES, MOST_ROWS}
 use Rattle.group_search.specs.Canon.{is_separable}
-use Rattle.group_search.specs.Home.{Home, flows_of, choices, opening}
+use Rattle.group_search.specs.Home.{flows_of, choices, opening}
 use Rattle.group_search.specs.Records.{entries, record_of}
 use Rattle.group_search.specs.Image.{Image}
 

@@ -1,5 +1,5 @@
 -- What the canonical records of groups say of the keys of the flows.
-use Rattle.std.specs.Prelude.{ℕ, ◌≡◌, List, Some, All}
+use Rattle.std.specs.Prelude.{◌≡◌, List, Some, All}
 use Rattle.flow_types.specs.declared.record.Flow.{Flow}
 use Rattle.flow_types.specs.Size.{Size, IsShape}
 use Rattle.group_search.specs.declared.record.GroupRecord.{GroupRecord}

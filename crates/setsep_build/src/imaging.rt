@@ -1,0 +1,41 @@
+ghost use Rattle.std.specs.Prelude.{◌≤◌, IfOk, IfErr};
+ghost use Rattle.group_search.specs.declared.limits.TheConstants.{MOST_BITS};
+ghost use Rattle.setsep_build.specs.Block.{IsImageOf, RefusesBlock};
+ghost use Rattle.setsep_build.specs.Placing.{AreApart};
+
+use crate::block::Placed;
+use crate::gathering::groups_of;
+use crate::records::records_of;
+use crate::refused::BuildRefused;
+use crate::sizing::bucket_sizes;
+use block_layout::choose;
+use group_search::{BlockImage, Entry, MOST_ENTRIES, MOST_ROWS};
+use std::alloc::Global;
+
+/// The image of a block with these flows.
+pub fn image_of(
+    alloc: Global,
+    bits: u8,
+    block: u16,
+    placed: &[Placed],
+    room: &mut Vec<Entry>,
+) -> Result<BlockImage, BuildRefused>
+    requires enough_bits { 1 ≤ bits }
+    requires few_bits { bits ≤ MOST_BITS }
+    requires apart { AreApart placed.now }
+    ensures image { IfOk result (λ image. IsImageOf bits placed.now image) }
+    ensures refused { IfErr result (λ why. RefusesBlock bits block placed.now why) }
+{
+    if placed.len() > MOST_ENTRIES {
+        return Err(BuildRefused::BlockFull { block });
+    }
+    let choices = choose(&bucket_sizes(placed));
+    let records = records_of(alloc, bits, placed, &groups_of(&choices), room)?;
+    if records.needed > MOST_ROWS as u32 {
+        return Err(BuildRefused::RowsFull {
+            block,
+            needed: records.needed,
+        });
+    }
+    Ok(BlockImage::new(choices, records.kept))
+}

@@ -1,0 +1,73 @@
+ghost use Rattle.std.specs.Prelude.{◌≡◌, ◌<◌, ◌≤◌, ◌+◌, ◌++◌, ◌^◌, OnOk, IfOk, length, option_to_list};
+ghost use Rattle.group_search.specs.Build.{rows_needed};
+ghost use Rattle.group_search.specs.Canon.{canonical};
+ghost use Rattle.group_search.specs.Rows.{HaveDistinctKeys};
+ghost use Rattle.group_search.specs.declared.limits.TheConstants.{MOST_BITS, MOST_ENTRIES};
+ghost use Rattle.block_layout.specs.declared.limits.TheConstants.{GROUPS};
+ghost use Rattle.setsep_build.specs.Block.{needed_below, records_below};
+ghost use Rattle.setsep_build.specs.Placing.{AreApart};
+
+use crate::block::Placed;
+use crate::gathering::gather;
+use block_layout::{BUCKETS, GROUPS};
+use group_search::{Entry, GroupRecord, canon};
+use std::alloc::{AllocError, Global};
+
+/// The records of the groups of a block so far, and the rows that its groups need.
+#[derive(Debug, Drop)]
+pub struct Records {
+    /// The records, without those of groups that are too large for one.
+    pub kept: Vec<GroupRecord>,
+    /// The rows: for each group that no indexes serve as many as it has flows.
+    pub needed: u32,
+}
+
+impl Records {
+    /// Adds the record of a group with these entries, where it has one, and the rows that it needs.
+    fn add(&mut self, bits: u8, entries: &[Entry]) -> Result<(), AllocError>
+        requires enough_bits { 1 ≤ bits }
+        requires few_bits { bits ≤ MOST_BITS }
+        requires distinct { HaveDistinctKeys entries.now }
+        requires few { length entries.now ≤ MOST_ENTRIES }
+        requires room { self.old.needed < 2 ^ 31 }
+        ensures kept { OnOk result (self.new.kept.items ≡ self.old.kept.items ++ option_to_list (canonical bits entries.now)) }
+        ensures needed { OnOk result (self.new.needed ≡ self.old.needed + rows_needed bits entries.now) }
+    {
+        match canon(entries, bits) {
+            Ok(content) => {
+                self.needed += u32::from(content.rows());
+                self.kept.push(content)?;
+            }
+            Err(too_many) => self.needed += u32::from(too_many.keys),
+        }
+        Ok(())
+    }
+}
+
+/// The records of all groups of a block with these flows.
+///
+/// The room is for the entries of one group at a time.
+pub fn records_of(
+    alloc: Global,
+    bits: u8,
+    placed: &[Placed],
+    groups: &[u8; BUCKETS],
+    room: &mut Vec<Entry>,
+) -> Result<Records, AllocError>
+    requires enough_bits { 1 ≤ bits }
+    requires few_bits { bits ≤ MOST_BITS }
+    requires apart { AreApart placed.now }
+    requires few { length placed.now ≤ MOST_ENTRIES }
+    ensures kept { IfOk result (λ records. records.kept.items ≡ records_below GROUPS bits groups.now placed.now) }
+    ensures needed { IfOk result (λ records. records.needed ≡ needed_below GROUPS bits groups.now placed.now) }
+{
+    let mut records = Records {
+        kept: Vec::with_capacity(alloc, GROUPS as usize)?,
+        needed: 0,
+    };
+    'groups: for group in 0..GROUPS {
+        gather(room, placed, groups, group)?;
+        records.add(bits, room.as_slice())?;
+    }
+    Ok(records)
+}
