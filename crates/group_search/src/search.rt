@@ -2,6 +2,7 @@ ghost use Rattle.std.specs.Prelude.{◌≡◌, ◌<◌, ◌↔◌, IsNone, IfSom
 ghost use Rattle.group_search.specs.Serving.{IsLeast, NoneServes, array_serving, least_of};
 
 use crate::entry::{Entry, Pair};
+use crate::limits::INDEXES;
 use hash_family::position;
 
 /// The least index that serves the entries at this bit of their nodes, with its array, or `None` where no index
@@ -15,7 +16,8 @@ pub fn least(entries: &[Entry], bit: u8) -> Option<Pair>
     ensures least { IfSome result (IsLeast bit entries.now) }
     ensures none { IsNone result ↔ NoneServes bit entries.now }
 {
-    'indexes: for index in 0..=u16::MAX {
+    'indexes: for next in 0..INDEXES {
+        let index = next as u16;
         if let Some(array) = array_at(entries, index, bit) {
             return Some(Pair { index, array });
         }

@@ -3,14 +3,15 @@ use Rattle.group_search.specs.Serving.{first_serving, least_of}
 use Rattle.group_search.specs.declared.limits.TheConstants.{INDEXES}
 use Rattle.group_search.proofs.FirstServing.{first_here, first_later, least_is_least, none_exactly}
 use Rattle.group_search.proofs.search.least.Goals as goal
+use Rattle.group_search.proofs.search.least.Goals.{After-indexes}
 
 pub indexes-init : goal.indexes-init
 unfolding least_of
 indexes-init c = refl
 
-found : (c : goal.In-Some) → Some (record { index = c.indexes.index; array = c.in-Some.array }) ≡ least_of c.args.bit c.args.entries.now
+found : (c : goal.In-Some) → Some (record { index = c.indexes.next; array = c.in-Some.array }) ≡ least_of c.args.bit c.args.entries.now
 found c =
-    let here = first_here c.args.bit c.args.entries.now (INDEXES - c.indexes.index) c.indexes.index c.in-Some.array (omega arith) (sym c.array_at.ensures ∙ c.in-Some.is) in
+    let here = first_here c.args.bit c.args.entries.now (INDEXES - c.indexes.next) c.indexes.next c.in-Some.array (omega arith) (sym c.array_at.ensures ∙ c.in-Some.is) in
     sym here ∙ c.indexes.invariant
 
 pub returns-in-Some-clause-value : goal.returns-in-Some-clause-value
@@ -24,19 +25,18 @@ returns-in-Some-clause-none c = none_exactly _ _ _ (found c)
 
 pub indexes-preserved : goal.indexes-preserved
 indexes-preserved c =
-    let later = first_later c.args.bit c.args.entries.now (INDEXES - c.indexes.index) c.indexes.index (omega arith) (sym c.array_at.ensures ∙ c.in_default.is) in
-    let left : INDEXES - (c.indexes.index + 1) ≡ INDEXES - c.indexes.index - 1 = omega arith in
+    let later = first_later c.args.bit c.args.entries.now (INDEXES - c.indexes.next) c.indexes.next (omega arith) (sym c.array_at.ensures ∙ c.in_default.is) in
+    let left : INDEXES - (c.indexes.next + 1) ≡ INDEXES - c.indexes.next - 1 = omega arith in
     rw left (sym later ∙ c.indexes.invariant)
 
-none : (c : goal.Else-index-lt65535) → None ≡ least_of c.args.bit c.args.entries.now
+none : (c : After-indexes) → None ≡ least_of c.args.bit c.args.entries.now
 unfolding first_serving
 none c =
-    let later = first_later c.args.bit c.args.entries.now (INDEXES - c.indexes.index) c.indexes.index (omega arith) (sym c.array_at.ensures ∙ c.in_default.is) in
-    let left : INDEXES - c.indexes.index - 1 ≡ 0 = omega arith in
-    sym (rw left at later) ∙ c.indexes.invariant
+    let left : INDEXES - c.indexes.next ≡ 0 = omega arith in
+    rw left at c.indexes.invariant
 
-pub returns-in_default-clause-value : goal.returns-in_default-clause-value
-returns-in_default-clause-value c = none c
+pub returns-clause-value : goal.returns-clause-value
+returns-clause-value c = none c
 
-pub returns-in_default-clause-none : goal.returns-in_default-clause-none
-returns-in_default-clause-none c = none_exactly _ _ _ (none c)
+pub returns-clause-none : goal.returns-clause-none
+returns-clause-none c = none_exactly _ _ _ (none c)

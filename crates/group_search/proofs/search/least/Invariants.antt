@@ -4,4 +4,4 @@ use Rattle.group_search.specs.declared.limits.TheConstants.{INDEXES}
 use Rattle.group_search.proofs.search.least.Given as goal
 
 abbrev pub invariant-indexes : goal.invariant-indexes
-invariant-indexes l = first_serving (INDEXES - l.index) l.index l.bit l.entries ≡ least_of l.bit l.entries
+invariant-indexes l = first_serving (INDEXES - l.next) l.next l.bit l.entries ≡ least_of l.bit l.entries
