@@ -8,9 +8,9 @@ use crate::choices::Choices;
 use crate::limits::CANDIDATES;
 use crate::ranking::{bucket_of, ranks_in_order};
 
-/// The choices that fill the groups of a block evenly, from the numbers of keys of its buckets. The buckets are taken by
-/// falling number of keys, of two alike the lower first. Each goes to the candidate whose group has the fewest keys so
-/// far, of two alike the lower candidate.
+/// The choices that fill the groups of a block evenly, from the numbers of keys of its buckets. The buckets are taken
+/// by falling number of keys, of two alike the lower first. Each goes to the candidate whose group has the fewest keys
+/// so far, of two alike the lower candidate.
 pub fn choose(sizes: &[u16; 256]) -> Choices
     requires { sum sizes.now ≤ MOST_KEYS }
     ensures { result ≡ dealing.choices_of sizes.now }
@@ -43,7 +43,8 @@ impl Dealt {
     fn deal(&mut self, sizes: &[u16; 256], bucket: u8)
         requires { All (λ load. load < 2 ^ 31) self.old.loads }
         ensures dealt { self.new ≡ dealing.deal sizes.now self.old bucket }
-        ensures bounded { (most : ℕ) → All (λ load. load ≤ most) self.old.loads → All (λ load. load ≤ most + 2 ^ 16) self.new.loads }
+        ensures bounded { (most : ℕ) → All (λ load. load ≤ most) self.old.loads →
+            All (λ load. load ≤ most + 2 ^ 16) self.new.loads }
     {
         let choice = least_loaded(&self.loads, bucket);
         let group = candidate(bucket, choice);

@@ -2,4 +2,5 @@ mod Counts
 mod Lines
 mod Flows
 mod Scripts
-mod Openings
+mod FirstBadFacts
+mod PathFacts

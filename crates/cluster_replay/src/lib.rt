@@ -12,6 +12,7 @@ mod directory;
 mod dotted;
 mod event;
 mod fault;
+mod law;
 mod replaying;
 mod reply;
 mod reporting;
@@ -19,6 +20,7 @@ mod script;
 
 pub use event::Event;
 pub use fault::InputFault;
+pub use law::{first_bad_row_law, replies_are_paths_law};
 pub use replaying::replay;
 pub use reply::Reply;
 pub use reporting::report;

@@ -11,7 +11,7 @@ use std::thread::Threads;
 
 /// The printed run of an input: the rows up to `begin` are read, then the script, each event gets its reply, and the
 /// report prints them. The first row that breaks a rule is the fault.
-#[tactic(auto, using(crate::proofs::Openings::begins_within, crate::proofs::Flows::length_replayed), unfolding(crate::specs::Outcome::outcome))]
+#[tactic(auto, using(crate::proofs::Flows::length_replayed), unfolding(crate::specs::Outcome::outcome))]
 pub fn replay<R: Threads>(
     rt: &R,
     alloc: Global,

@@ -1,5 +1,5 @@
 ghost use Rattle.std.specs.Prelude.{◌≡◌, ◌+◌, ◌^◌, ◌<◌, ◌++◌, length, OnOk, IfOk, string_bytes, count_by};
-ghost use Rattle.cluster_replay.specs.Report.{found_line, unknown_line, nowhere_line, last_line, line, lines, is_found, is_unknown, report};
+ghost use Rattle.cluster_replay.specs.Report.{found_line, hops, unknown_line, nowhere_line, last_line, line, lines, is_found, is_unknown, report};
 
 use crate::dotted::Dotted;
 use crate::event::Event;
@@ -11,7 +11,7 @@ use std::alloc::{AllocError, Global};
 /// As many octets as most lines take at most.
 const LINE_LENGTH: usize = 88;
 
-/// The printed lines of a script and its replies, one for each event, and the last line with their counts.
+/// The printed lines of a script and its replies, one reply for each event, and the last line with their counts.
 #[tactic(auto, using(crate::proofs::Counts::counts_within), unfolding(crate::specs::Report::report))]
 pub fn report(alloc: Global, script: &[Event], replies: &[Reply]) -> Result<Vec<u8>, OutOfMemory>
     requires { length script.now ≡ length replies.now }
@@ -86,7 +86,7 @@ fn write_found(
 ) -> Result<(), AllocError>
     ensures { OnOk result (string_bytes text.new ≡ string_bytes text.old ++ found_line number ingress node seen fib info) }
 {
-    let hops = u8::from(node != ingress);
+    let hops = hops(ingress, node);
     let (teid, base) = (info.teid, Dotted(info.base));
     writeln!(
         text,
@@ -105,11 +105,18 @@ fn write_unknown(
 ) -> Result<(), AllocError>
     ensures { OnOk result (string_bytes text.new ≡ string_bytes text.old ++ unknown_line number ingress node seen fib) }
 {
-    let hops = u8::from(node != ingress);
+    let hops = hops(ingress, node);
     writeln!(
         text,
         "packet {number} in {ingress} to {node} hops {hops} seen {seen} fib {fib} unknown"
     )
+}
+
+/// How often a packet crosses the switch between its ingress and its node.
+fn hops(ingress: u8, node: u8) -> u8
+    ensures { result ≡ hops ingress node }
+{
+    u8::from(node != ingress)
 }
 
 #[tactic(auto, unfolding(crate::specs::Report::nowhere_line))]

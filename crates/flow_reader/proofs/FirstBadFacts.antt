@@ -180,3 +180,6 @@ opening-law all = record {
   made = λ opening. (λ e. rw e at (says-all all), opening_of-made all opening);
   bad = λ bad. (λ e. rw e at (says-all all), opening_of-bad all bad);
 }
+
+pub is-opening : (all : List Row) (opening : Opening) → opening_of all ≡ Ok opening → IsOpening all opening
+is-opening all opening e = rw e at (says-all all)

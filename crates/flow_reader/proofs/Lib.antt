@@ -1,3 +1,4 @@
 pub mod OpeningFacts
 pub mod KeyFacts
 pub mod FirstBadFacts
+pub mod FlowFacts

@@ -17,3 +17,6 @@ pub use fields::{address_field, flow_of, is_kind, key_at, node_field, number_fie
 pub use law::first_bad_row_law;
 pub use opening::{Flows, MOST_OCTETS, Opening, RowRefused};
 pub use rows::read_opening;
+
+#[cfg(test)]
+mod tests;

@@ -1,6 +1,8 @@
-ghost use Rattle.std.specs.Prelude.{◌≡◌, ◌+◌, ◌<◌, ◌≤◌, ◌^◌, length, OnOk};
+ghost use Rattle.std.specs.Prelude.{◌≡◌, ◌+◌, ◌<◌, ◌≤◌, ◌^◌, length, IfOk, OnOk};
 ghost use Rattle.csv_rows.specs.Reading.{IsReading, rows_left};
 ghost use Rattle.csv_rows.specs.Rows.{fields_of, rows};
+ghost use Rattle.flow_reader.specs.FirstBad.{IsOpening};
+ghost use Rattle.flow_reader.specs.Fit.{IsFit};
 ghost use Rattle.flow_reader.specs.Opening.{Answers, bad_row, opening_from, opening_of, row_after};
 ghost use Rattle.flow_reader.specs.Steps.{BeginsAt, SaysShape, TakesIn};
 
@@ -11,10 +13,19 @@ use csv_rows::{ByteRecord, RowReader};
 use flow_types::{BadRow, Shape, Why};
 use std::alloc::Global;
 
-/// Reads the rows of the bytes up to `begin`.
+/// Reads the rows of the bytes up to `begin`: a `cluster` row, then `flow` rows, then `begin`. What comes after `begin`
+/// isn't looked at.
+///
+/// `Bad` is the first row that breaks a rule; where the rows end before `begin`, it is the row after the last. A row's
+/// kind is looked at first, then its number of fields, then its fields from left to right, then whether an earlier flow
+/// has its key. `OutOfMemory` may come at any row.
 pub fn read_opening(alloc: Global, bytes: &[u8]) -> Result<Opening, RowRefused>
     requires { length bytes.now ≤ MOST_OCTETS }
     ensures answers { Answers (opening_of (rows bytes.now)) result }
+
+    // What that makes of an opening and of its rows.
+    ensures opening { IfOk result (IsOpening (rows bytes.now)) }
+    ensures fit { IfOk result (IsFit (rows bytes.now)) }
 {
     let mut reader = RowReader::new(alloc, bytes);
     let mut row = ByteRecord::new(alloc);

@@ -77,3 +77,7 @@ pub four_parts : (text a b c rest more last : List ℕ) → slice_split is_dot t
 unfolding address_value
 four_parts text a b c rest more last h i j =
     ap address_of_octets (h ∙ ap (λ parts. a ∷ parts) (i ∙ ap (λ parts. b ∷ parts) j)) ∙ last_part a b c last
+
+pub ruleset dots = (no_dot, at_dot)
+
+pub ruleset parts_of_a_text = (one_part, two_parts, three_parts, four_parts)

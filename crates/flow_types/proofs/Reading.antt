@@ -54,3 +54,5 @@ at_digit max n i text h d = rw (add-one, drop-cons text i 0 h) (after_digit max 
 pub from_the_start : (max : ℕ) (text : List ℕ) → number_after max 0 text ≡ (if all_ascii_digits text then up_to max (digits_value_after 10 0 text) else None)
 unfolding number_after
 from_the_start max text = refl
+
+pub ruleset reading = (at_end, at_no_digit, at_digit, after_too_much, from_the_start)

@@ -23,9 +23,10 @@ pub fn read_address(text: &[u8]) -> Option<u32>
 }
 
 /// The texts of the four octets, where there are so many. The last may have a further dot, and is no number then.
-#[tactic(auto, using(crate::proofs::Parts::one_part, crate::proofs::Parts::two_parts, crate::proofs::Parts::three_parts, crate::proofs::Parts::four_parts))]
+#[tactic(auto, using(crate::proofs::Parts::parts_of_a_text))]
 fn split_octets(text: &[u8]) -> Option<(&[u8], &[u8], &[u8], &[u8])>
-    ensures { MatchOption result (address_value text.now ≡ None) (λ octets. address_value text.now ≡ four_octets octets.0.now octets.1.now octets.2.now octets.3.now) }
+    ensures { MatchOption result (address_value text.now ≡ None)
+        (λ octets. address_value text.now ≡ four_octets octets.0.now octets.1.now octets.2.now octets.3.now) }
 {
     let (first, rest) = split_at_dot(text)?;
     let (second, rest) = split_at_dot(rest)?;
@@ -34,9 +35,10 @@ fn split_octets(text: &[u8]) -> Option<(&[u8], &[u8], &[u8], &[u8])>
 }
 
 /// The text before its first dot, and the text after it.
-#[tactic(auto, using(crate::proofs::Parts::no_dot, crate::proofs::Parts::at_dot))]
+#[tactic(auto, using(crate::proofs::Parts::dots))]
 fn split_at_dot(text: &[u8]) -> Option<(&[u8], &[u8])>
-    ensures { MatchOption result (slice_split is_dot text.now ≡ text.now ∷ []) (λ halves. slice_split is_dot text.now ≡ halves.0.now ∷ slice_split is_dot halves.1.now) }
+    ensures { MatchOption result (slice_split is_dot text.now ≡ text.now ∷ [])
+        (λ halves. slice_split is_dot text.now ≡ halves.0.now ∷ slice_split is_dot halves.1.now) }
 {
     let dot = first_dot(text)?;
     Some((&text[..dot], &text[dot + 1..]))

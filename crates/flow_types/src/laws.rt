@@ -11,12 +11,14 @@ use std::cmp::Ordering;
 
 /// A text is a number of at most `max` exactly where it is what `{}` prints of that number.
 pub fn number_texts()
-    ensures { (max n : ℕ) (text : List ℕ) → max < 2 ^ 64 → (number_value max text ≡ Some n) ↔ ((n ≤ max) × (text ≡ decimal n)) }
+    ensures { (max n : ℕ) (text : List ℕ) → max < 2 ^ 64 →
+        (number_value max text ≡ Some n) ↔ ((n ≤ max) × (text ≡ decimal n)) }
 {}
 
 /// An address that was written reads back as itself, and no other text reads as it.
 pub fn address_texts()
-    ensures { (address : ℕ) (text : List ℕ) → address < 2 ^ 32 → (address_value text ≡ Some address) ↔ (text ≡ address_text address) }
+    ensures { (address : ℕ) (text : List ℕ) → address < 2 ^ 32 →
+        (address_value text ≡ Some address) ↔ (text ≡ address_text address) }
 {}
 
 /// An address that was read has 32 bits.

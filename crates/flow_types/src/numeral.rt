@@ -18,7 +18,7 @@ pub fn read_number(text: &[u8], max: u64) -> Option<u64>
 }
 
 /// The value of a text of digits alone, where it is at most `max`.
-#[tactic(auto, using(crate::proofs::Reading::at_end, crate::proofs::Reading::at_no_digit, crate::proofs::Reading::at_digit, crate::proofs::Reading::after_too_much, crate::proofs::Reading::from_the_start))]
+#[tactic(auto, using(crate::proofs::Reading::reading))]
 fn digits_up_to(text: &[u8], max: u64) -> Option<u64>
     ensures value { result ≡ (if all_ascii_digits text.now then up_to max (digits_value 10 text.now) else None) }
     ensures most { IfSome result (λ number. number ≤ max) }

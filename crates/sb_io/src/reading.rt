@@ -28,6 +28,11 @@ pub enum ReadRefusal {
 }
 
 impl fmt::Display for ReadRefusal {
+    ghost use Rattle.std.specs.Prelude.{Some};
+    ghost use Rattle.sb_io.specs.Refusal.{refusal_text};
+
+    ghost output = { λ refusal. Some (refusal_text refusal) };
+
     fn fmt<W: fmt::Write>(&self, f: &mut fmt::Formatter<W>) -> fmt::Result {
         match self {
             ReadRefusal::ReadFault => f.write_str("read fault"),

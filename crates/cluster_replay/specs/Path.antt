@@ -1,0 +1,44 @@
+-- The paths that a packet may take. Its ingress sends it by one version of its flow's group, and the node that it is sent
+-- to answers by one version of that group.
+use Rattle.std.specs.Prelude.{◌≡◌, ℕ, ◌<◌, List, [], ◌∷◌, Contains, Option, Some, None, IfSome}
+use Rattle.flow_types.specs.declared.key.FlowKey.{FlowKey}
+use Rattle.flow_types.specs.declared.record.Flow.{Flow}
+use Rattle.flow_types.specs.declared.record.Record.{Record}
+use Rattle.cluster_replay.specs.declared.event.Event.{Event}
+use Rattle.cluster_replay.specs.declared.event.Event.TheVariants.{Packet}
+use Rattle.cluster_replay.specs.declared.reply.Reply.{Reply}
+use Rattle.cluster_replay.specs.declared.reply.Reply.TheVariants.{Found, Unknown, Nowhere}
+
+-- the flow of this key is known, with its handler and its record; a group's flows have distinct keys
+abbrev pub Knows : List Flow → FlowKey → ℕ → Record → Type 0
+Knows flows key node info = Contains flows (record { key = key; node = node; info = info })
+
+-- where an ingress that knows these flows may send a packet: a flow that is known to its handler, and one that isn't to
+-- any of the nodes, or nowhere
+pub record Route (nodes : ℕ) (flows : List Flow) (key : FlowKey) (to : Option ℕ) : Type 0 where
+  pub known : (node : ℕ) (info : Record) → Knows flows key node info → to ≡ Some node
+  pub unknown : ((node : ℕ) (info : Record) → ¬ Knows flows key node info) → IfSome to (λ node. node < nodes)
+
+-- what a node answers by these flows: the record, where it is the flow's handler, and else that the flow is unknown
+abbrev pub Answer : List Flow → ℕ → FlowKey → Option Record → Type 0
+Answer flows node key (Some info) = Knows flows key node info
+Answer flows node key None = (info : Record) → ¬ Knows flows key node info
+
+-- a reply is a path of a packet with this key, where `At` tells the flows of the key's group at each version
+abbrev pub Path : ℕ → (ℕ → List Flow → Type 0) → FlowKey → Reply → Type 0
+Path nodes At key (Found node seen fib info) =
+    (there here : List Flow) × At seen there × At fib here × Route nodes there key (Some node) × Answer here node key (Some info)
+Path nodes At key (Unknown node seen fib) =
+    (there here : List Flow) × At seen there × At fib here × Route nodes there key (Some node) × Answer here node key None
+Path nodes At key (Nowhere seen) = (there : List Flow) × At seen there × Route nodes there key None
+
+-- each packet of a script has a path as its reply
+abbrev pub ArePaths : ℕ → (ℕ → List Flow → Type 0) → List Event → List Reply → Type 0
+ArePaths nodes At [] [] = Unit {0}
+ArePaths nodes At (Packet ingress key ∷ script) (reply ∷ replies) = Path nodes At key reply × ArePaths nodes At script replies
+ArePaths nodes At _ _ = ⊥
+
+-- without updates there is one version, 0: the flows of the opening
+pub record AtOpening (flows : List Flow) (version : ℕ) (known : List Flow) : Type 0 where
+  pub first : version ≡ 0
+  pub same : known ≡ flows

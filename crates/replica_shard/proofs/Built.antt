@@ -1,0 +1,105 @@
+-- What a table says of a key, where its images are those that the flows of a cluster give.
+use Rattle.std.proofs.Common.{◌≡◌, ℕ, ◌+◌, ◌*◌, ◌/◌, ◌%◌, ◌<◌, ◌≤◌, List, [], length, Some, ◌∙◌, ap, arith}
+use Rattle.std.specs.List.{slice_get}
+use Rattle.std.specs.Prelude.{slice_index_or}
+use Rattle.std.proofs.lemmas.Option.{slice_get-get_or}
+use Rattle.std.specs.Prelude.{All}
+use Rattle.std.proofs.Common.{get_or, sym}
+use Rattle.flow_types.specs.declared.key.FlowKey.{FlowKey}
+use Rattle.flow_types.specs.declared.record.Flow.{Flow}
+use Rattle.flow_types.specs.Size.{Size, IsShape}
+use Rattle.hash_family.specs.Hash.{place}
+use Rattle.block_layout.specs.Candidate.{candidate}
+use Rattle.block_layout.specs.declared.limits.TheConstants.{GROUPS}
+use Rattle.group_search.specs.Build.{IsBuild}
+use Rattle.group_search.specs.Home.{choices, group_of, home}
+use Rattle.group_search.specs.Image.{Image}
+use Rattle.group_search.specs.declared.record.GroupRecord.{GroupRecord}
+use Rattle.group_search.specs.declared.record.GroupRecord.TheVariants.{Fallback}
+use Rattle.group_search.specs.Records.{AreDistinct, AreHandled, record_of}
+use Rattle.group_search.proofs.EachFlow.{routes_each_flow}
+use Rattle.replica_shard.specs.Routed.{decoded, routed}
+use Rattle.replica_shard.specs.Table.{AreImagesOf, IsOwned, IsTableOf, home_in, record_in}
+
+abbrev no_image : Image
+no_image = record { choices = []; records = [] }
+
+abbrev no_record : GroupRecord
+no_record = Fallback []
+
+abbrev image_at : List Image → ℕ → Image
+image_at images block = slice_index_or images block no_image
+
+group_below : (bucket choice : ℕ) → candidate bucket choice < GROUPS
+unfolding candidate
+group_below bucket choice = omega arith
+
+block_below : (blocks : ℕ) (key : FlowKey) → 1 ≤ blocks → (place blocks key).block < blocks
+unfolding place
+block_below blocks key some = omega arith
+
+-- a block stands in its owner's table where it is dealt to it
+block_of_its_place : (nodes owner block : ℕ) → 1 ≤ nodes → block % nodes ≡ owner → owner + nodes * (block / nodes) ≡ block
+block_of_its_place nodes owner block some is = omega arith
+
+image_there : (size : Size) (flows : List Flow) (owner : ℕ) (images owned : List Image) (block : ℕ) → 1 ≤ size.nodes → IsBuild size flows images
+    → AreImagesOf size.nodes owner images owned → block < size.blocks → block % size.nodes ≡ owner → slice_get owned (block / size.nodes) ≡ Some (image_at images block)
+image_there size flows owner images owned block some build dealt below owns =
+    let one_each = build.one_each in
+    let within : block < length images = omega arith in
+    dealt.each (block / size.nodes) ∙ ap (slice_get images) (block_of_its_place size.nodes owner block some owns) ∙ slice_get-get_or images block no_image within
+
+home_there : (size : Size) (flows : List Flow) (owner : ℕ) (images owned : List Image) (key : FlowKey) → 1 ≤ size.nodes → 1 ≤ size.blocks → IsBuild size flows images
+    → AreImagesOf size.nodes owner images owned → IsOwned size owner key → home_in (record { size = size; owner = owner; images = owned }) key ≡ Some (home size.blocks flows key)
+unfolding home
+home_there size flows owner images owned key some blocks build dealt owns =
+    let block = (place size.blocks key).block in
+    let below : block < size.blocks = block_below size.blocks key blocks in
+    let there : slice_get owned (block / size.nodes) ≡ Some (image_at images block) = image_there size flows owner images owned block some build dealt below owns in
+    let chosen = (build.each block no_image below).choices in
+    rw there (ap (λ (choices : List ℕ). Some (record { block = block; group = group_of choices (place size.blocks key).bucket })) chosen)
+
+record_there : (size : Size) (flows : List Flow) (owner : ℕ) (images owned : List Image) (key : FlowKey) → 1 ≤ size.nodes → 1 ≤ size.blocks → IsBuild size flows images
+    → AreImagesOf size.nodes owner images owned → IsOwned size owner key → record_in (record { size = size; owner = owner; images = owned }) key ≡ record_of size flows (home size.blocks flows key)
+unfolding home
+record_there size flows owner images owned key some blocks build dealt owns =
+    let block = (place size.blocks key).block in
+    let bucket = (place size.blocks key).bucket in
+    let below : block < size.blocks = block_below size.blocks key blocks in
+    let there : slice_get owned (block / size.nodes) ≡ Some (image_at images block) = image_there size flows owner images owned block some build dealt below owns in
+    let image = build.each block no_image below in
+    let group = group_of (image_at images block).choices bucket in
+    let stands = image.records group (group_below bucket _) in
+    rw there (stands ∙ ap (λ (choices : List ℕ). record_of size flows (record { block = block; group = group_of choices bucket })) image.choices)
+
+pub table_of_build : (size : Size) (flows : List Flow) (owner : ℕ) (images owned : List Image) → 1 ≤ size.nodes → 1 ≤ size.blocks
+    → AreImagesOf size.nodes owner images owned → IsBuild size flows images → IsTableOf size flows owner (record { size = size; owner = owner; images = owned })
+unfolding routed
+table_of_build size flows owner images owned some blocks dealt build = record {
+  homes = λ key owns. home_there size flows owner images owned key some blocks build dealt owns;
+  records = λ key owns. record_there size flows owner images owned key some blocks build dealt owns;
+  routes = λ key owns. ap (decoded size key) (record_there size flows owner images owned key some blocks build dealt owns);
+}
+
+-- the record of a key's home is there
+record_is : (size : Size) (flows : List Flow) (images : List Image) (key : FlowKey) → 1 ≤ size.blocks → IsBuild size flows images
+    → (content : GroupRecord) × (record_of size flows (home size.blocks flows key) ≡ Some content)
+unfolding home
+record_is size flows images key blocks build =
+    let block = (place size.blocks key).block in
+    let bucket = (place size.blocks key).bucket in
+    let image = build.each block no_image (block_below size.blocks key blocks) in
+    let group = group_of (choices size.blocks block flows) bucket in
+    let low : group < GROUPS = group_below bucket _ in
+    let one_each = image.one_each in
+    let records = (image_at images block).records in
+    let within : group < length records = omega arith in
+    (slice_index_or records group no_record, sym (image.records group low) ∙ slice_get-get_or records group no_record within)
+
+pub routed_to_handlers : (size : Size) (flows : List Flow) (images : List Image) → IsShape size.nodes size.blocks → AreDistinct flows → AreHandled size.nodes flows
+    → IsBuild size flows images → All (λ (flow : Flow). routed size flows flow.key ≡ Some flow.node) flows
+unfolding routed
+routed_to_handlers size flows images shape distinct handled build = λ k d low.
+    let flow = get_or flows k d in
+    let there = record_is size flows images flow.key (omega (arith, shape.enough_blocks)) build in
+    rw there.1 (routes_each_flow size flows shape distinct handled k d low there.0 there.1)
