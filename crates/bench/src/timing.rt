@@ -1,10 +1,12 @@
-use crate::{searching, work};
+use crate::{choosing, searching, work};
 use std::io;
 use std::rt::Clock;
 use std::time::{Duration, Instant};
 
-/// How many keys are hashed, and how many groups searched.
+/// How many keys are hashed, blocks laid out, and groups searched.
 const KEYS: u64 = 2_000_000;
+
+const BLOCKS: u64 = 2_000;
 
 const GROUPS: u64 = 1_000;
 
@@ -17,6 +19,10 @@ pub fn figures(rt: &(impl Print + AllocGlobal + Clock)) -> io::Result<()> {
     let start = Instant::now(rt)?;
     let sum = work::pairs(1, KEYS);
     line(rt, "pair", KEYS, start.elapsed(rt)?, sum)?;
+
+    let start = Instant::now(rt)?;
+    let sum = choosing::choices(1, BLOCKS);
+    line(rt, "choose", BLOCKS, start.elapsed(rt)?, sum)?;
 
     searches(rt, 16, GROUPS)?;
     searches(rt, 20, GROUPS / 10)

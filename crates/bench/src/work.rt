@@ -1,5 +1,5 @@
 use crate::keys::key;
-use crate::searching;
+use crate::{choosing, searching};
 use flow_types::Shape;
 use hash_family::{pair, place};
 use std::io;
@@ -33,6 +33,7 @@ pub fn pairs(seed: u64, keys: u64) -> u64 {
 pub fn checksums(rt: &(impl Print + AllocGlobal)) -> io::Result<()> {
     println!(rt; "places {}", places(1, 1000))?;
     println!(rt; "pairs {}", pairs(1, 1000))?;
+    println!(rt; "choices {}", choosing::choices(1, 20))?;
     'sizes: for keys in [0, 1, 7, 16, 20] {
         let found = searching::groups(rt.alloc(), 1, 20, keys)?;
         println!(rt;

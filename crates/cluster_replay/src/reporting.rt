@@ -11,7 +11,7 @@ use std::alloc::{AllocError, Global};
 /// As many octets as most lines take at most.
 const LINE_LENGTH: usize = 88;
 
-/// The printed lines of a script and its replies, one for each event, and the last line with their counts.
+/// The printed lines of a script and its replies, one reply for each event, and the last line with their counts.
 #[tactic(auto, using(crate::proofs::Counts::counts_within), unfolding(crate::specs::Report::report))]
 pub fn report(alloc: Global, script: &[Event], replies: &[Reply]) -> Result<Vec<u8>, OutOfMemory>
     requires { length script.now ≡ length replies.now }

@@ -2,6 +2,7 @@ ghost use Rattle.std.specs.Prelude.{◌≡◌};
 
 use flow_types::{BadRow, Flow, Shape};
 use out_of_memory::OutOfMemory;
+use std::alloc::AllocError;
 use std::marker::Model;
 
 /// The greatest number of octets of an input.
@@ -45,6 +46,32 @@ impl Flows {
         ensures { result.now ≡ self.now }
     {
         self.flows.as_slice()
+    }
+}
+
+impl Clone for Flows {
+    ghost use Rattle.std.specs.Prelude.{◌≡◌};
+
+    ghost is_clone = { λ flows copy. copy ≡ flows };
+
+    fn clone(&self) -> Result<Flows, AllocError> {
+        Ok(Flows {
+            flows: self.flows.clone()?,
+        })
+    }
+}
+
+impl Clone for Opening {
+    ghost use Rattle.std.specs.Prelude.{◌≡◌};
+
+    ghost is_clone = { λ opening copy. copy ≡ opening };
+
+    fn clone(&self) -> Result<Opening, AllocError> {
+        Ok(Opening {
+            shape: self.shape,
+            flows: self.flows.clone()?,
+            begin_row: self.begin_row,
+        })
     }
 }
 

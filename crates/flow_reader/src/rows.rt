@@ -13,7 +13,12 @@ use csv_rows::{ByteRecord, RowReader};
 use flow_types::{BadRow, Shape, Why};
 use std::alloc::Global;
 
-/// Reads the rows of the bytes up to `begin`. What comes after `begin` isn't looked at.
+/// Reads the rows of the bytes up to `begin`: a `cluster` row, then `flow` rows, then `begin`. What comes after `begin`
+/// isn't looked at.
+///
+/// `Bad` is the first row that breaks a rule; where the rows end before `begin`, it is the row after the last. A row's
+/// kind is looked at first, then its number of fields, then its fields from left to right, then whether an earlier flow
+/// has its key. `OutOfMemory` may come at any row.
 pub fn read_opening(alloc: Global, bytes: &[u8]) -> Result<Opening, RowRefused>
     requires { length bytes.now ≤ MOST_OCTETS }
     ensures answers { Answers (opening_of (rows bytes.now)) result }

@@ -223,10 +223,10 @@ fn reads_the_fields_of_a_flow(rt: HostRuntime) -> Result<(), Fail> {
         },
     };
     match read(rt.alloc(), text)? {
-        Ok(opening) => assert!(rt;
-            opening.flows.as_slice() == [wanted].as_slice(),
-            "{opening:?}"
-        ),
+        Ok(opening) => {
+            let copy = opening.clone()?;
+            assert!(rt; copy.flows.as_slice() == [wanted].as_slice(), "{copy:?}");
+        }
         Err(bad) => assert!(rt; false, "refused: {bad:?}"),
     }
     Ok(())

@@ -12,3 +12,4 @@ mod Numbered
 pub mod NeededRows
 pub mod Mapped
 pub mod EachFlow
+pub mod FirstPastLimit

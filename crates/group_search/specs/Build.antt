@@ -1,5 +1,5 @@
 -- The table that the flows of a cluster give: an image for each block, or the first block that is past a limit.
-use Rattle.std.specs.Prelude.{ℕ, zero, suc, ◌≡◌, ◌+◌, ◌<◌, List, length, map, sum, Option, Some, None, if◌then◌else◌, nat_lt, slice_index_or}
+use Rattle.std.specs.Prelude.{ℕ, zero, suc, ◌≡◌, ◌+◌, ◌<◌, ◌≤◌, List, length, map, sum, Option, Some, None, if◌then◌else◌, nat_lt, slice_index_or}
 use Rattle.std.specs.List.{range_with_len, slice_get}
 use Rattle.block_layout.specs.declared.limits.TheConstants.{GROUPS}
 use Rattle.flow_types.specs.declared.record.Flow.{Flow}
@@ -55,3 +55,41 @@ pub record IsBuild (size : Size) (flows : List Flow) (images : List Image) : Typ
   pub within : past_limit size flows ≡ None
   pub one_each : length images ≡ size.blocks
   pub each : (block : ℕ) (d : Image) → block < size.blocks → IsImage size flows block (slice_index_or images block d)
+
+-- the block is past no limit
+pub record IsWithin (size : Size) (flows : List Flow) (block : ℕ) : Type 0 where
+  pub few : length (flows_of size.blocks block flows) ≤ MOST_ENTRIES
+  pub few_rows : needed size flows block ≤ MOST_ROWS
+
+-- the block has too many flows
+pub record HasTooManyFlows (size : Size) (flows : List Flow) (block : ℕ) : Type 0 where
+  pub many : MOST_ENTRIES < length (flows_of size.blocks block flows)
+
+-- the block's flows are few enough, and they need so many rows, which are too many
+pub record NeedsTooManyRows (size : Size) (flows : List Flow) (block rows : ℕ) : Type 0 where
+  pub few : length (flows_of size.blocks block flows) ≤ MOST_ENTRIES
+  pub rows_are : rows ≡ needed size flows block
+  pub many : MOST_ROWS < rows
+
+abbrev pub block_of : PastLimit → ℕ
+block_of (TooManyFlows block) = block
+block_of (TooManyRows block rows) = block
+
+abbrev pub IsPast : Size → List Flow → PastLimit → Type 0
+IsPast size flows (TooManyFlows block) = HasTooManyFlows size flows block
+IsPast size flows (TooManyRows block rows) = NeedsTooManyRows size flows block rows
+
+-- the block is past this limit, and no lesser block is past any
+pub record IsFirstPast (size : Size) (flows : List Flow) (past : PastLimit) : Type 0 where
+  pub in_range : block_of past < size.blocks
+  pub here : IsPast size flows past
+  pub before : (block : ℕ) → block < block_of past → IsWithin size flows block
+
+-- all blocks are within their limits, or this is the first that isn't
+abbrev pub TellsTheFirst : Size → List Flow → Option PastLimit → Type 0
+TellsTheFirst size flows None = (block : ℕ) → block < size.blocks → IsWithin size flows block
+TellsTheFirst size flows (Some past) = IsFirstPast size flows past
+
+-- `past_limit` tells the first block that is past a limit
+abbrev pub NamesTheFirst : Type 0
+NamesTheFirst = (size : Size) (flows : List Flow) → TellsTheFirst size flows (past_limit size flows)

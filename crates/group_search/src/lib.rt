@@ -28,7 +28,7 @@ pub use image::BlockImage;
 pub use laws::{canonical_gives_each_node, canonical_ignores_order};
 pub use limits::{FEWEST_ROWS, INDEXES, MOST_BITS, MOST_ENTRIES, MOST_ROWS, POSITIONS};
 pub use record::GroupRecord;
-pub use routing::{homes_route_each_flow, records_give_each_handler};
+pub use routing::{homes_route_each_flow, past_limit_names_the_first, records_give_each_handler};
 pub use rows::{Row, Rows};
 pub use search::least;
 pub use served::Served;

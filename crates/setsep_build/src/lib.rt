@@ -14,6 +14,8 @@ mod records;
 mod refused;
 mod sizing;
 mod spreading;
+#[cfg(test)]
+mod tests;
 
 pub use building::{MOST_WORKERS, build};
 pub use refused::BuildRefused;
