@@ -15,7 +15,7 @@ use std::thread::Threads;
 pub const MOST_WORKERS: u8 = 64;
 
 /// The image of each block of the shape, in the order of the blocks, for flows with distinct keys and nodes of the
-/// shape. The images are the same for any number of workers, 1..=64.
+/// shape. It is the same for any number of workers, 1..=64. Refused, it names the first block that is past a limit.
 pub fn build<R: Threads>(
     rt: &R,
     alloc: Global,

@@ -1,6 +1,4 @@
 use std::alloc::{AllocError, AllocFailed};
-use std::error::Error;
-use std::fmt;
 
 /// Why flows can't be built. The first block in rising order that is past a limit is named.
 #[derive(Clone, Copy, Debug, PartialEq, Eq, Hash)]
