@@ -2,9 +2,9 @@
 use Rattle.std.specs.Prelude.{◌≡◌, ◌⊎◌, ℕ, ◌≤◌, List, [], ◌∷◌, length, codes, Option, Result, Ok, Err, IsOk, nat_lt, if◌then◌else◌}
 use Rattle.sb_io.specs.Streams.{ReadsAll}
 use Rattle.cluster_replay.specs.declared.fault.InputFault.{InputFault}
-use Rattle.cluster_replay.specs.declared.fault.InputFault.TheVariants.{Bad, OutOfMemory}
+use Rattle.cluster_replay.specs.declared.fault.InputFault.TheVariants.{Bad, BlockFull, RowsFull, OutOfMemory}
 use Rattle.cluster_replay.specs.Outcome.{outcome}
-use Rattle.scalebricks.specs.declared.status.TheConstants.{DONE, ROW_REFUSED, WORDS_REFUSED, READ_FAULT, WRITE_FAULT, OUT_OF_MEMORY, TOO_LARGE, INPUT_LIMIT}
+use Rattle.scalebricks.specs.declared.status.TheConstants.{DONE, INPUT_REFUSED, WORDS_REFUSED, READ_FAULT, WRITE_FAULT, OUT_OF_MEMORY, TOO_LARGE, INPUT_LIMIT}
 
 -- the words are a command: to replay
 abbrev pub IsCommand : List (List ℕ) → Type 0
@@ -14,14 +14,16 @@ IsCommand words = words ≡ codes "replay" ∷ []
 abbrev pub OfInput : Option (List ℕ) → Option (List ℕ) → (List ℕ → Type 0) → Type 0
 OfInput left now P = (octets : List ℕ) × ReadsAll left now octets × (length octets ≤ INPUT_LIMIT) × P octets
 
--- no row of the input breaks a rule, and the input is within the limit
+-- no row of the input breaks a rule, its flows are within the table's limits, and it is within its own
 pub record IsReadable (octets : List ℕ) : Type 0 where
   pub within : length octets ≤ INPUT_LIMIT
-  pub no_bad_row : IsOk (outcome octets)
+  pub accepted : IsOk (outcome octets)
 
 abbrev pub outcome_status : Result (List ℕ) InputFault → ℕ
 outcome_status (Ok report) = DONE
-outcome_status (Err (Bad row)) = ROW_REFUSED
+outcome_status (Err (Bad row)) = INPUT_REFUSED
+outcome_status (Err (BlockFull block)) = INPUT_REFUSED
+outcome_status (Err (RowsFull block)) = INPUT_REFUSED
 outcome_status (Err OutOfMemory) = OUT_OF_MEMORY
 
 -- the status of an input, where neither reading nor writing fails and there is memory

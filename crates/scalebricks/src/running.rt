@@ -3,12 +3,12 @@ ghost use Rattle.std.specs.Io.KnownBytes.{Appends};
 ghost use Rattle.sb_io.specs.Faults.{Rose};
 ghost use Rattle.sb_io.specs.Streams.{ReadsCount, AppendsPart};
 ghost use Rattle.cluster_replay.specs.Outcome.{outcome};
-ghost use Rattle.scalebricks.specs.Printed.{printed, HasBadRow};
+ghost use Rattle.scalebricks.specs.Printed.{printed, IsRefused};
 ghost use Rattle.scalebricks.specs.Run.{IsCommand, IsHindered, IsReadable, OfInput, WritesNothing, outcome_status, status_of};
 
-use crate::refusal::refused_line;
+use crate::refusal::{refused_block, refused_row};
 use crate::status::{
-    DONE, INPUT_LIMIT, OUT_OF_MEMORY, READ_FAULT, ROW_REFUSED, TOO_LARGE, WORDS_REFUSED,
+    DONE, INPUT_LIMIT, OUT_OF_MEMORY, READ_FAULT, INPUT_REFUSED, TOO_LARGE, WORDS_REFUSED,
     WRITE_FAULT,
 };
 use cluster_replay::{InputFault, replay};
@@ -38,9 +38,9 @@ pub fn run<S: Source, K: Sink, G: Gate + Sync, R: Threads + Wait>(
     ensures done { result ≡ DONE → OfInput (S.left input.old) (S.left input.new) (λ octets.
         IsOk (outcome octets) × Appends (K.held output.old) (K.held output.new) (printed (outcome octets))) }
 
-    // The input was read to its end and has a bad row, and the line of the first one was appended.
-    ensures refused { result ≡ ROW_REFUSED → OfInput (S.left input.old) (S.left input.new) (λ octets.
-        HasBadRow (outcome octets) × Appends (K.held output.old) (K.held output.new) (printed (outcome octets))) }
+    // The input was read to its end and has a bad row or a block past a limit, and the line of the first was appended.
+    ensures refused { result ≡ INPUT_REFUSED → OfInput (S.left input.old) (S.left input.new) (λ octets.
+        IsRefused (outcome octets) × Appends (K.held output.old) (K.held output.new) (printed (outcome octets))) }
 
     ensures command { IsCommand (map string_bytes words.now) ↔ (result ≢ WORDS_REFUSED) }
     ensures nothing_read { result ≡ WORDS_REFUSED → input.new ≡ input.old }
@@ -97,23 +97,31 @@ struct Output {
     status: u8,
 }
 
-/// Makes what is printed for an input: its report, or the line of its first bad row.
+/// The output of an input that is refused with this line.
+fn refused(line: String) -> Output
+    ensures text { result.text.items ≡ string_bytes line }
+    ensures status { result.status ≡ INPUT_REFUSED }
+{
+    let status = INPUT_REFUSED;
+    Output {
+        text: line.into_bytes(),
+        status,
+    }
+}
+
+/// Makes what is printed for an input: its report, or the line of its first bad row or of the first block past a
+/// limit.
 fn make_output<R: Threads>(rt: &R, alloc: Global, bytes: &[u8]) -> Result<Output, OutOfMemory>
     requires { length bytes.now ≤ INPUT_LIMIT }
     ensures text { IfOk result (λ made. made.text.items ≡ printed (outcome bytes.now)) }
     ensures status { IfOk result (λ made. made.status ≡ outcome_status (outcome bytes.now)) }
-    ensures known { OnOk result (IsOk (outcome bytes.now) ⊎ HasBadRow (outcome bytes.now)) }
+    ensures known { OnOk result (IsOk (outcome bytes.now) ⊎ IsRefused (outcome bytes.now)) }
 {
     match replay(rt, alloc, bytes, WORKERS) {
         Ok(text) => Ok(Output { text, status: DONE }),
-        Err(InputFault::Bad(bad)) => {
-            let line = refused_line(alloc, bad)?;
-            let status = ROW_REFUSED;
-            Ok(Output {
-                text: line.into_bytes(),
-                status,
-            })
-        }
+        Err(InputFault::Bad(bad)) => Ok(refused(refused_row(alloc, bad)?)),
+        Err(InputFault::BlockFull { block }) => Ok(refused(refused_block(alloc, block, "BlockFull")?)),
+        Err(InputFault::RowsFull { block }) => Ok(refused(refused_block(alloc, block, "RowsFull")?)),
         Err(InputFault::OutOfMemory) => Err(OutOfMemory),
     }
 }

@@ -5,8 +5,8 @@ pub const INPUT_LIMIT: u64 = 67_108_864;
 
 /// The whole output was written.
 pub const DONE: u8 = 0;
-/// The line of the first bad row was written.
-pub const ROW_REFUSED: u8 = 1;
+/// The line of the first bad row, or of the first block past a limit, was written.
+pub const INPUT_REFUSED: u8 = 1;
 /// The words are no command.
 pub const WORDS_REFUSED: u8 = 2;
 /// The source failed.

@@ -2,7 +2,7 @@ ghost use Rattle.std.specs.Prelude.{◌≢◌};
 
 use crate::run;
 use crate::status::{
-    DONE, INPUT_LIMIT, OUT_OF_MEMORY, READ_FAULT, ROW_REFUSED, TOO_LARGE, WORDS_REFUSED,
+    DONE, INPUT_LIMIT, OUT_OF_MEMORY, READ_FAULT, INPUT_REFUSED, TOO_LARGE, WORDS_REFUSED,
     WRITE_FAULT, complaint,
 };
 use sb_io::{HonestSink, HonestSource, MemSink, MemSource, OpenGate};
@@ -45,7 +45,7 @@ fn answers_each_input(rt: HostRuntime) -> Result<(), Fail> {
         ),
         (
             "cluster,1,1\nbegin\nend\n",
-            ROW_REFUSED,
+            INPUT_REFUSED,
             "refused row 1 Number\n",
         ),
         (
@@ -60,19 +60,19 @@ fn answers_each_input(rt: HostRuntime) -> Result<(), Fail> {
              flow,10.0.0.1,192.0.2.7,4,443,6,0,4,192.168.0.9\n\
              flow,10.0.0.1,192.0.2.7,5,443,6,0,5,192.168.0.9\n\
              flow,10.0.0.1,192.0.2.7,2,443,6,1,6,192.168.0.9\nbegin\nend\n",
-            ROW_REFUSED,
+            INPUT_REFUSED,
             "refused row 7 Duplicate\n",
         ),
-        ("", ROW_REFUSED, "refused row 1 NoBegin\n"),
-        ("cluster,4,1\nbegin\n", ROW_REFUSED, "refused row 3 NoEnd\n"),
+        ("", INPUT_REFUSED, "refused row 1 NoBegin\n"),
+        ("cluster,4,1\nbegin\n", INPUT_REFUSED, "refused row 3 NoEnd\n"),
         (
             "cluster,4,1\nbegin\nend\nsync\n",
-            ROW_REFUSED,
+            INPUT_REFUSED,
             "refused row 4 AfterEnd\n",
         ),
         (
             "cluster,4,1\nbegin\nsync\nend\n",
-            ROW_REFUSED,
+            INPUT_REFUSED,
             "refused row 3 Kind\n",
         ),
     ];
@@ -161,7 +161,7 @@ fn run_honestly<R: Threads + Wait>(
 fn each_status_has_its_line(rt: HostRuntime) {
     let lines = [
         (DONE, None),
-        (ROW_REFUSED, None),
+        (INPUT_REFUSED, None),
         (WORDS_REFUSED, Some("scalebricks: words refused")),
         (READ_FAULT, Some("scalebricks: read fault")),
         (WRITE_FAULT, Some("scalebricks: write fault")),
