@@ -40,9 +40,13 @@ module _ (size : Size) (flows : List Flow) where
       (omega arith, omega arith, h.1, λ other low high. absurd (omega arith))
   one_more count block None (Some past) h rest =
       let from : block + 1 ≤ block_of past = rest.0 in
-      let to : block_of past < block + 1 + count = rest.1 in
-      (omega arith, omega arith, rest.2, λ other low high.
-        ⊎_elim (λ (same : other ≡ block). subst (IsWithin size flows) (sym same) h) (λ (later : other ≢ block). rest.3 other (omega arith) high) (cases_eq other block))
+      let to : block_of past < block + 1 + count = rest.1 in (
+        omega arith,
+        omega arith,
+        rest.2,
+        λ other low high.
+            ⊎_elim (λ (same : other ≡ block). subst (IsWithin size flows) (sym same) h) (λ (later : other ≢ block). rest.3 other (omega arith) high) (cases_eq other block),
+      )
   one_more count block None None h rest = λ other low high.
       ⊎_elim (λ (same : other ≡ block). subst (IsWithin size flows) (sym same) h) (λ (later : other ≢ block). rest other (omega arith) (omega arith)) (cases_eq other block)
 

@@ -8,7 +8,7 @@ ghost use Rattle.scalebricks.specs.Run.{IsCommand, IsHindered, IsReadable, OfInp
 
 use crate::refusal::{refused_block, refused_row};
 use crate::status::{
-    DONE, INPUT_LIMIT, OUT_OF_MEMORY, READ_FAULT, INPUT_REFUSED, TOO_LARGE, WORDS_REFUSED,
+    DONE, INPUT_LIMIT, INPUT_REFUSED, OUT_OF_MEMORY, READ_FAULT, TOO_LARGE, WORDS_REFUSED,
     WRITE_FAULT,
 };
 use cluster_replay::{InputFault, replay};
@@ -120,8 +120,14 @@ fn make_output<R: Threads>(rt: &R, alloc: Global, bytes: &[u8]) -> Result<Output
     match replay(rt, alloc, bytes, WORKERS) {
         Ok(text) => Ok(Output { text, status: DONE }),
         Err(InputFault::Bad(bad)) => Ok(refused(refused_row(alloc, bad)?)),
-        Err(InputFault::BlockFull { block }) => Ok(refused(refused_block(alloc, block, "BlockFull")?)),
-        Err(InputFault::RowsFull { block }) => Ok(refused(refused_block(alloc, block, "RowsFull")?)),
+        Err(InputFault::BlockFull { block }) => Ok(refused(refused_block(
+            alloc,
+            block,
+            "BlockFull",
+        )?)),
+        Err(InputFault::RowsFull { block }) => Ok(refused(refused_block(
+            alloc, block, "RowsFull",
+        )?)),
         Err(InputFault::OutOfMemory) => Err(OutOfMemory),
     }
 }

@@ -2,7 +2,7 @@ ghost use Rattle.std.specs.Prelude.{◌≢◌};
 
 use crate::run;
 use crate::status::{
-    DONE, INPUT_LIMIT, OUT_OF_MEMORY, READ_FAULT, INPUT_REFUSED, TOO_LARGE, WORDS_REFUSED,
+    DONE, INPUT_LIMIT, INPUT_REFUSED, OUT_OF_MEMORY, READ_FAULT, TOO_LARGE, WORDS_REFUSED,
     WRITE_FAULT, complaint,
 };
 use sb_io::{HonestSink, HonestSource, MemSink, MemSource, OpenGate};
@@ -64,7 +64,11 @@ fn answers_each_input(rt: HostRuntime) -> Result<(), Fail> {
             "refused row 7 Duplicate\n",
         ),
         ("", INPUT_REFUSED, "refused row 1 NoBegin\n"),
-        ("cluster,4,1\nbegin\n", INPUT_REFUSED, "refused row 3 NoEnd\n"),
+        (
+            "cluster,4,1\nbegin\n",
+            INPUT_REFUSED,
+            "refused row 3 NoEnd\n",
+        ),
         (
             "cluster,4,1\nbegin\nend\nsync\n",
             INPUT_REFUSED,
