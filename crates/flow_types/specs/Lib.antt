@@ -1,3 +1,4 @@
 pub mod Key
+pub mod Map
 pub mod Size
 pub mod Text
