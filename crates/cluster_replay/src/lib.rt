@@ -10,7 +10,7 @@
 
 mod answering;
 mod cluster;
-mod directory;
+mod fib;
 mod dotted;
 mod event;
 mod fault;

@@ -1,6 +1,7 @@
-ghost use Rattle.std.specs.Prelude.{◌≤◌, OnOk, length};
+ghost use Rattle.std.specs.Prelude.{◌≤◌, IfOk, length};
 ghost use Rattle.cluster_replay.specs.Outcome.{Gives, outcome};
-ghost use Rattle.cluster_replay.specs.Path.{GoesByPaths};
+ghost use Rattle.cluster_replay.specs.Headline.{IsRunOf};
+ghost use Rattle.cluster_replay.specs.Headline.Mode.{Replay};
 
 use crate::answering::replies;
 use crate::cluster::open;
@@ -14,7 +15,7 @@ use std::thread::Threads;
 /// The printed run of an input: the rows up to `begin` are read, then the script, the table is built, each event gets its
 /// reply, and the report prints them. The fault is the first row that breaks a rule, or else the first block that is past a
 /// limit.
-#[tactic(auto, using(crate::proofs::Flows::length_replayed, crate::proofs::PathFacts::goes_by_paths), unfolding(crate::specs::Outcome::outcome))]
+#[tactic(auto, using(crate::proofs::Replied::length_replayed, crate::proofs::RunFacts::replay_runs), unfolding(crate::specs::Outcome::outcome))]
 pub fn replay<R: Threads>(
     rt: &R,
     alloc: Global,
@@ -25,7 +26,7 @@ pub fn replay<R: Threads>(
     requires few_workers { workers ≤ 64 }
     requires limit { length bytes.now ≤ MOST_OCTETS }
     ensures gives { Gives result (outcome bytes.now) }
-    ensures paths { OnOk result (GoesByPaths bytes.now) }
+    ensures run { IfOk result (λ text. IsRunOf Replay 1 bytes.now text.items) }
 {
     let opening = read_opening(alloc, bytes)?;
     let script = read_script(alloc, bytes, opening.begin_row, opening.shape)?;

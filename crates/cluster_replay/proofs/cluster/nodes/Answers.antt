@@ -1,4 +1,4 @@
-use Rattle.std.proofs.Common.{◌≡◌, [], ◌∷◌, ◌++◌, ℕ, length, sym, subst, arith, rules, length-append}
+use Rattle.std.proofs.Common.{◌≡◌, [], ◌∷◌, ◌++◌, ℕ, sym, subst, arith, rules, length-append}
 use Rattle.cluster_replay.specs.Cluster.{IsNode}
 use Rattle.cluster_replay.specs.declared.node.Node.{Node}
 use Rattle.cluster_replay.proofs.Pushed.{each_pushed}

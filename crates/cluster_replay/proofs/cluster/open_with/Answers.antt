@@ -1,5 +1,4 @@
 use Rattle.replica_shard.proofs.Built.{routed_to_handlers}
-use Rattle.std.proofs.Common.{rules}
 use Rattle.cluster_replay.proofs.cluster.open_with.Goals as goal
 
 pub invariant_of-result : goal.invariant_of-result

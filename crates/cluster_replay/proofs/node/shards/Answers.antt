@@ -1,4 +1,4 @@
-use Rattle.std.proofs.Common.{◌≡◌, [], ◌∷◌, ◌++◌, ℕ, length, sym, subst, ◌∙◌, arith, rules, length-append}
+use Rattle.std.proofs.Common.{◌≡◌, [], ◌∷◌, ◌++◌, ℕ, sym, subst, arith, rules, length-append}
 use Rattle.replica_shard.specs.Table.{Table}
 use Rattle.cluster_replay.specs.Tables.{IsShard}
 use Rattle.cluster_replay.proofs.Pushed.{each_pushed}
