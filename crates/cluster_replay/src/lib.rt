@@ -10,10 +10,10 @@
 
 mod answering;
 mod cluster;
-mod fib;
 mod dotted;
 mod event;
 mod fault;
+mod fib;
 mod law;
 mod node;
 mod replaying;

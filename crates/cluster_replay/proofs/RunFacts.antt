@@ -1,0 +1,38 @@
+-- A report of replay is a run's.
+use Rattle.std.proofs.Common.{◌≡◌, ℕ, List, Ok, refl, subst}
+use Rattle.csv_rows.specs.Rows.{rows}
+use Rattle.flow_reader.proofs.FirstBadFacts.{opening-law}
+use Rattle.flow_reader.specs.Opening.{opening_of}
+use Rattle.flow_reader.specs.declared.opening.Opening.{Opening}
+use Rattle.group_search.specs.Records.{AreHandled}
+use Rattle.replica_shard.specs.Routed.{ReachesHandlers}
+use Rattle.cluster_replay.specs.FirstBad.{IsReportOf}
+use Rattle.cluster_replay.specs.Headline.{IsRunOf}
+use Rattle.cluster_replay.specs.Headline.Mode.{Replay}
+use Rattle.cluster_replay.specs.Outcome.{opened, outcome}
+use Rattle.cluster_replay.specs.Replies.{replayed}
+use Rattle.cluster_replay.proofs.FirstBadFacts.{outcome_law}
+use Rattle.cluster_replay.proofs.PathFacts.{replayed_paths, replayed_routes}
+
+-- the opening that was read, built and reached is the report's
+pub replay_runs : (bytes text : List ℕ) (opening : Opening) → outcome bytes ≡ Ok text → opening_of (rows bytes) ≡ Ok opening → AreHandled opening.shape.nodes opening.flows
+    → ReachesHandlers opening.shape opening.flows → IsRunOf Replay 1 bytes text
+replay_runs bytes text opening gives opens handled reached = of_report (((outcome_law opening-law bytes).printed text).0 gives)
+  where
+    of_report : IsReportOf (rows bytes) text → IsRunOf Replay 1 bytes text
+    of_report r =
+        let also : opening_of (rows bytes) ≡ Ok r.opening = ((opening-law (rows bytes)).made r.opening).1 r.readable.opens in
+        let same : opening ≡ r.opening = cc in
+        let handles : AreHandled r.opening.shape.nodes r.opening.flows = subst (λ (o : Opening). AreHandled o.shape.nodes o.flows) same handled in
+        let reaches : ReachesHandlers r.opening.shape r.opening.flows = subst (λ (o : Opening). ReachesHandlers o.shape o.flows) same reached in
+        record {
+          opening = r.opening;
+          script = r.script;
+          replies = replayed (opened r.opening) r.script;
+          readable = r.readable;
+          within = r.within;
+          prints = r.prints;
+          paths = replayed_paths (opened r.opening) r.script handles reaches;
+          routes = replayed_routes (opened r.opening) r.script handles reaches;
+          of_mode = (refl, refl);
+        }
