@@ -1,6 +1,7 @@
 mod Pushed
 mod Counts
-mod Lines
+mod LineByLine
+mod Words
 mod Replied
 mod FibFacts
 mod Found
