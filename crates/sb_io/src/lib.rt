@@ -18,6 +18,7 @@ mod reading;
 mod sink;
 mod source;
 mod std_stream;
+mod trying;
 mod writing;
 
 pub use failed::{Failed, WriteFault};
