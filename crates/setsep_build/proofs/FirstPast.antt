@@ -1,5 +1,5 @@
 -- The first block that is past a limit.
-use Rattle.std.proofs.Common.{ℕ, zero, suc, ◌≡◌, ◌∙◌, ◌+◌, ◌-◌, ◌<◌, ◌≤◌, List, length, Option, Some, None, sym, refl, arith}
+use Rattle.std.proofs.Common.{ℕ, zero, suc, ◌≡◌, ◌∙◌, ◌+◌, ◌-◌, ◌<◌, ◌≤◌, List, length, Option, Some, None, IfSome, sym, refl, arith}
 use Rattle.std.proofs.lemmas.Bool.{le-ltb, lt-ltb}
 use Rattle.flow_types.specs.declared.record.Flow.{Flow}
 use Rattle.flow_types.specs.Size.{Size, value_bits}
@@ -12,7 +12,7 @@ use Rattle.setsep_build.specs.declared.refused.BuildRefused.{BuildRefused}
 use Rattle.setsep_build.specs.declared.refused.BuildRefused.TheVariants.{BlockFull, RowsFull, OutOfMemory}
 use Rattle.setsep_build.specs.Placing.{placed_in}
 use Rattle.setsep_build.specs.Block.{IsImageOf, IsFull, NeedsRows, RefusesBlock}
-use Rattle.setsep_build.specs.Refused.{Tells}
+use Rattle.setsep_build.specs.Refused.{named_limit}
 use Rattle.setsep_build.proofs.Lifted.{same_length, same_needed}
 
 module _ (size : Size) (flows : List Flow) (block : ℕ) where
@@ -53,7 +53,7 @@ module _ (size : Size) (flows : List Flow) (block : ℕ) where
 
   -- where no lesser block is past a limit, what is wrong with this block refuses the build
   pub refuses : (count : ℕ) (past : Option PastLimit) (why : BuildRefused) → 0 < count → first_past_limit count block size flows ≡ past
-      → RefusesBlock (value_bits size.nodes) block (placed_in size.blocks block flows) why → Tells past why
+      → RefusesBlock (value_bits size.nodes) block (placed_in size.blocks block flows) why → IfSome (named_limit why) (λ (named : PastLimit). past ≡ Some named)
   refuses count past (BlockFull named) some first is = sym first ∙ past_here count (TooManyFlows named) (full_past named is) some
   refuses count past (RowsFull named rows) some first is = sym first ∙ past_here count (TooManyRows named rows) (rows_past named rows is) some
   refuses count past OutOfMemory some first is = tt
