@@ -91,6 +91,7 @@ opening_from shape (row ∷ rest) flows number =
     let said = row_after_flows shape.nodes flows row in
     ends_or shape flows number said (opening_from shape rest (with_said flows said) (number + 1))
 
+-- what the rows say, where the first says this of the shape and these come after it
 abbrev pub opening_after : List Row → Result Size Why → Result Opening BadRow
 opening_after rest (Ok shape) = opening_from shape rest [] 2
 opening_after rest (Err reason) = Err (bad_row 1 reason)
