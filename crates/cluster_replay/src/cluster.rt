@@ -1,8 +1,7 @@
 ghost use Rattle.std.specs.Prelude.{◌≡◌, ◌<◌, ◌≤◌, List, None, IfErr, IfOk, OnOk};
 ghost use Rattle.group_search.specs.Build.{IsBuild, past_limit};
-ghost use Rattle.flow_types.specs.Map.{AreDistinct};
 ghost use Rattle.group_search.specs.Records.{AreHandled};
-ghost use Rattle.flow_types.specs.Size.{IsShape};
+ghost use Rattle.flow_types.specs.Map.{AreDistinct};
 ghost use Rattle.replica_shard.specs.Routed.{ReachesHandlers, routed};
 ghost use Rattle.cluster_replay.specs.Cluster.{AreNodes};
 ghost use Rattle.cluster_replay.specs.Limits.{IsCausedBy};
@@ -14,6 +13,7 @@ use crate::fault::InputFault;
 use crate::node::Node;
 use crate::reply::Reply;
 use flow_reader::Opening;
+use flow_types::laws::numbers_of_a_shape;
 use flow_types::{Flow, FlowKey, Shape};
 use group_search::BlockImage;
 use hash_family::place;
@@ -86,7 +86,7 @@ fn open_with(
     ensures state { IfOk result (λ cluster. cluster ≡ record { size = shape; flows = flows.now }) }
     ensures reached { OnOk result (ReachesHandlers shape flows.now) }
 {
-    know_numbers(shape);
+    numbers_of_a_shape(shape);
     let nodes = nodes(alloc, shape, flows, images)?;
     let flows = Vec::from_slice(alloc, flows)?;
     Ok(Cluster {
@@ -94,13 +94,6 @@ fn open_with(
         flows,
         nodes,
     })
-}
-
-/// What a shape's numbers are is known of it. The call does nothing.
-fn know_numbers(shape: Shape)
-    ensures { IsShape shape.nodes shape.blocks }
-{
-    let _ = (shape.nodes(), shape.blocks());
 }
 
 /// The nodes of a cluster of these flows and of the images that they give.

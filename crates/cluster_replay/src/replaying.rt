@@ -1,5 +1,8 @@
 ghost use Rattle.std.specs.Prelude.{◌≤◌, IfOk, length};
-ghost use Rattle.cluster_replay.specs.Outcome.{Gives, outcome};
+ghost use Rattle.out_of_memory.specs.Answer.{Answers};
+ghost use Rattle.flow_types.specs.Input.{most_octets};
+ghost use Rattle.cluster_replay.specs.Limits.{named_fault};
+ghost use Rattle.cluster_replay.specs.Outcome.{outcome};
 ghost use Rattle.cluster_replay.specs.Headline.{IsRunOf};
 ghost use Rattle.cluster_replay.specs.Headline.Mode.{Replay};
 
@@ -8,7 +11,7 @@ use crate::cluster::open;
 use crate::fault::InputFault;
 use crate::reporting::report;
 use crate::script::read_script;
-use flow_reader::{MOST_OCTETS, read_opening};
+use flow_reader::read_opening;
 use std::alloc::Global;
 use std::thread::Threads;
 
@@ -24,8 +27,8 @@ pub fn replay<R: Threads>(
 ) -> Result<Vec<u8>, InputFault>
     requires some_worker { 1 ≤ workers }
     requires few_workers { workers ≤ 64 }
-    requires limit { length bytes.now ≤ MOST_OCTETS }
-    ensures gives { Gives result (outcome bytes.now) }
+    requires limit { length bytes.now ≤ most_octets }
+    ensures answers { Answers (λ text. text.items) named_fault (outcome bytes.now) result }
     ensures run { IfOk result (λ text. IsRunOf Replay 1 bytes.now text.items) }
 {
     let opening = read_opening(alloc, bytes)?;

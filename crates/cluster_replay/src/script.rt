@@ -1,12 +1,14 @@
 ghost use Rattle.std.specs.Prelude.{◌≡◌, ◌+◌, ◌<◌, ◌≤◌, ◌^◌, All, length, drop, ◌++◌, is_none, option_to_list, IfOk, IfSome, OnOk};
 ghost use Rattle.csv_rows.specs.Rows.{fields_of, rows};
 ghost use Rattle.csv_rows.specs.Reading.{IsReading, rows_left};
-ghost use Rattle.flow_reader.specs.Opening.{bad_row};
-ghost use Rattle.cluster_replay.specs.Script.{Answers, IsFormed, packet_fields, row_after, script_of, script_row};
+ghost use Rattle.out_of_memory.specs.Answer.{Answers};
+ghost use Rattle.flow_types.specs.Input.{most_octets};
+ghost use Rattle.flow_reader.specs.Opening.{bad_row, named_row};
+ghost use Rattle.cluster_replay.specs.Script.{IsFormed, packet_fields, row_after, script_of, script_row};
 
 use crate::event::Event;
 use csv_rows::{ByteRecord, RowReader, field};
-use flow_reader::{MOST_OCTETS, RowRefused, is_kind, key_at, node_field};
+use flow_reader::{RowRefused, is_kind, key_at, node_field};
 use flow_types::{BadRow, Shape, Why};
 use out_of_memory::OutOfMemory;
 use std::alloc::Global;
@@ -18,9 +20,9 @@ pub fn read_script(
     begin_row: u32,
     shape: Shape,
 ) -> Result<Vec<Event>, RowRefused>
-    requires limit { length bytes.now ≤ MOST_OCTETS }
+    requires limit { length bytes.now ≤ most_octets }
     requires begun { begin_row ≤ length (rows bytes.now) }
-    ensures says { Answers (script_of shape.nodes begin_row (drop begin_row (rows bytes.now))) result }
+    ensures says { Answers (λ events. events.items) named_row (script_of shape.nodes begin_row (drop begin_row (rows bytes.now))) result }
     ensures formed { IfOk result (λ events. All (IsFormed shape.nodes) events.items) }
 {
     let mut reader = RowReader::new(alloc, bytes);
@@ -52,7 +54,7 @@ fn read_rows(
 ) -> Result<Vec<Event>, RowRefused>
     requires reading { IsReading reader }
     requires few { begin_row + length (rows_left reader) < 2 ^ 31 }
-    ensures says { Answers (script_of nodes begin_row (rows_left reader.entry)) result }
+    ensures says { Answers (λ events. events.items) named_row (script_of nodes begin_row (rows_left reader.entry)) result }
     ensures formed { IfOk result (λ events. All (IsFormed nodes) events.items) }
 {
     let mut events = Vec::new(alloc);

@@ -5,7 +5,7 @@
 //! `specs/Words.antt` how a record is packed. `specs/Home.antt` says which flows a group has, and `specs/Build.antt` what
 //! table the flows of a cluster give. No call takes memory, but a clone of an image.
 //! Proved: each call's exact answer; that a canonical record gives each of its keys its node, whatever the order of
-//! the entries. Only tested: nothing.
+//! the entries. Only tested: that memory suffices for a clone of an image.
 #![tactic(auto)]
 
 mod choosing;
@@ -25,7 +25,7 @@ mod words;
 pub use choosing::{TooMany, canon, separable};
 pub use entry::{Entry, Pair};
 pub use image::BlockImage;
-pub use laws::{canonical_gives_each_node, canonical_ignores_order};
+pub use laws::{canonical_gives_each_node, canonical_ignores_order, the_limits_are};
 pub use limits::{FEWEST_ROWS, INDEXES, MOST_BITS, MOST_ENTRIES, MOST_ROWS, POSITIONS};
 pub use record::GroupRecord;
 pub use routing::{homes_route_each_flow, past_limit_names_the_first, records_give_each_handler};

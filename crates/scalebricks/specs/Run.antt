@@ -1,6 +1,7 @@
 -- What a run of the program takes for a command, and which status belongs to an input.
 use Rattle.std.specs.Prelude.{◌≡◌, ℕ, ◌≤◌, List, [], ◌∷◌, length, codes, Option, Result, Ok, Err, IsOk, nat_lt, if◌then◌else◌}
 use Rattle.std.specs.Io.KnownBytes.{Appends}
+use Rattle.flow_types.specs.Input.{most_octets}
 use Rattle.sb_io.specs.Streams.{ReadsAll}
 use Rattle.cluster_replay.specs.declared.fault.InputFault.{InputFault}
 use Rattle.cluster_replay.specs.declared.fault.InputFault.TheVariants.{Bad, BlockFull, RowsFull, OutOfMemory}
@@ -13,13 +14,9 @@ use Rattle.scalebricks.specs.Status.Status.{Done, InputRefused, NoMemory, TooLar
 abbrev pub IsCommand : List (List ℕ) → Type 0
 IsCommand words = words ≡ codes "replay" ∷ []
 
--- the most octets of an input
-abbrev pub input_limit : ℕ
-input_limit = 67108864
-
 -- the whole input was read, it is within the limit, and this holds of it
 abbrev pub OfInput : Option (List ℕ) → Option (List ℕ) → (List ℕ → Type 0) → Type 0
-OfInput left now P = (octets : List ℕ) × ReadsAll left now octets × (length octets ≤ input_limit) × P octets
+OfInput left now P = (octets : List ℕ) × ReadsAll left now octets × (length octets ≤ most_octets) × P octets
 
 -- what was appended is a run's of this input
 abbrev pub AppendsRun : Mode → (lanes : ℕ) → (held now : Option (List ℕ)) → List ℕ → Type 0
@@ -27,7 +24,7 @@ AppendsRun mode lanes held now octets = (text : List ℕ) × IsRunOf mode lanes 
 
 -- no row of the input breaks a rule, its flows are within the table's limits, and it is within its own
 pub record IsReadable (octets : List ℕ) : Type 0 where
-  pub within : length octets ≤ input_limit
+  pub within : length octets ≤ most_octets
   pub accepted : IsOk (outcome octets)
 
 abbrev pub outcome_status : Result (List ℕ) InputFault → ℕ
@@ -39,4 +36,4 @@ outcome_status (Err OutOfMemory) = code NoMemory
 
 -- the status of an input, where neither reading nor writing fails and there is memory
 abbrev pub status_of : List ℕ → ℕ
-status_of octets = if nat_lt input_limit (length octets) then code TooLarge else outcome_status (outcome octets)
+status_of octets = if nat_lt most_octets (length octets) then code TooLarge else outcome_status (outcome octets)

@@ -1,12 +1,13 @@
 ghost use Rattle.std.specs.Prelude.{ℕ, List, ◌≡◌, ◌≢◌, ◌≤◌, ◌↔◌, ◌⊎◌, ◌+◌, IsTrue, IsOk, IfOk, OnOk, IfSome, length, map, string_bytes};
 ghost use Rattle.std.specs.Io.KnownBytes.{Appends};
+ghost use Rattle.flow_types.specs.Input.{most_octets};
 ghost use Rattle.sb_io.specs.Faults.{Rose};
 ghost use Rattle.sb_io.specs.Streams.{ReadsCount, AppendsPart};
 ghost use Rattle.cluster_replay.specs.Headline.{IsRunOf};
 ghost use Rattle.cluster_replay.specs.Headline.Mode.{Replay};
 ghost use Rattle.cluster_replay.specs.Outcome.{outcome};
 ghost use Rattle.scalebricks.specs.Printed.{printed, IsRefused};
-ghost use Rattle.scalebricks.specs.Run.{AppendsRun, IsCommand, IsReadable, OfInput, input_limit, outcome_status, status_of};
+ghost use Rattle.scalebricks.specs.Run.{AppendsRun, IsCommand, IsReadable, OfInput, outcome_status, status_of};
 ghost use Rattle.scalebricks.specs.Status.{IsHindered, WritesNothing, code};
 ghost use Rattle.scalebricks.specs.Status.Status.{Done, InputRefused, NoMemory, ReadFailed, TooLarge, WordsRefused, WriteFailed};
 
@@ -58,13 +59,13 @@ pub fn run<S: Source, K: Sink, G: Gate + Sync, R: Threads + Wait>(
 
     // One octet more than the limit was read.
     ensures too_large { IfSome (S.left input.old) (λ octets.
-        (result ≡ code TooLarge) ↔ ReadsCount octets (S.left input.new) (input_limit + 1)) }
+        (result ≡ code TooLarge) ↔ ReadsCount octets (S.left input.new) (most_octets + 1)) }
 
     ensures nothing { WritesNothing result → output.new ≡ output.old }
 
     // Whatever it answers, it read from the start, and no more than that; no count of faults has fallen.
     ensures gone { IfSome (S.left input.old) (λ octets.
-        (n : ℕ) × (n ≤ input_limit + 1) × ReadsCount octets (S.left input.new) n) }
+        (n : ℕ) × (n ≤ most_octets + 1) × ReadsCount octets (S.left input.new) n) }
     ensures read_faults { S.faults input.old ≤ S.faults input.new }
     ensures write_faults { K.faults output.old ≤ K.faults output.new }
 
@@ -122,7 +123,7 @@ fn refused(line: String) -> Output
 /// Makes what is printed for an input: its report, or the line of its first bad row or of the first block past a
 /// limit.
 fn make_output<R: Threads>(rt: &R, alloc: Global, bytes: &[u8]) -> Result<Output, OutOfMemory>
-    requires { length bytes.now ≤ input_limit }
+    requires { length bytes.now ≤ most_octets }
     ensures text { IfOk result (λ made. made.text.items ≡ printed (outcome bytes.now)) }
     ensures status { IfOk result (λ made. made.status ≡ outcome_status (outcome bytes.now)) }
     ensures known { OnOk result (IsOk (outcome bytes.now) ⊎ IsRefused (outcome bytes.now)) }
