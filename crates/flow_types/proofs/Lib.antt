@@ -1,5 +1,6 @@
 pub mod Addresses
 pub mod Decimals
+pub mod KeyedFlows
 pub mod Numerals
 pub mod Octets
 pub mod Parts
