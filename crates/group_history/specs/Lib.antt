@@ -1,0 +1,4 @@
+pub mod Change
+pub mod Journal
+pub mod History
+pub mod Routes
