@@ -8,6 +8,10 @@
 #![tactic(auto)]
 
 mod change;
+mod journal;
 pub mod laws;
+#[cfg(test)]
+mod tests;
 
 pub use change::Change;
+pub use journal::Journal;
