@@ -1,6 +1,7 @@
 pub mod Addresses
 pub mod Decimals
 pub mod Elements
+pub mod KeyedFlows
 pub mod Numerals
 pub mod Octets
 pub mod Parts
