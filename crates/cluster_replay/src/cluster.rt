@@ -1,7 +1,8 @@
 ghost use Rattle.std.specs.Prelude.{◌≡◌, ◌<◌, ◌≤◌, List, None, IfErr, IfOk, OnOk};
 ghost use Rattle.group_search.specs.Build.{IsBuild, past_limit};
-ghost use Rattle.group_search.specs.Records.{AreDistinct, AreHandled};
+ghost use Rattle.group_search.specs.Records.{AreHandled};
 ghost use Rattle.flow_types.specs.Size.{IsShape};
+ghost use Rattle.flow_types.specs.Map.{AreDistinct};
 ghost use Rattle.replica_shard.specs.Routed.{ReachesHandlers, routed};
 ghost use Rattle.cluster_replay.specs.Cluster.{AreNodes};
 ghost use Rattle.cluster_replay.specs.Limits.{IsCausedBy};

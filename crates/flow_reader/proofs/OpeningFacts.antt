@@ -5,7 +5,7 @@ use Rattle.flow_types.specs.declared.record.Flow.{Flow}
 use Rattle.flow_types.specs.declared.why.BadRow.{BadRow}
 use Rattle.flow_types.specs.declared.why.Why.TheVariants as why
 use Rattle.csv_rows.specs.Rows.{Row, TakesRow}
-use Rattle.flow_reader.specs.Opening.{bad_row, opening_after, opening_from, opening_of, row_after, shape_of}
+use Rattle.flow_reader.specs.Opening.{bad_row, opening_after, opening_from, opening_of, row_after_flows, shape_of}
 use Rattle.flow_reader.specs.Steps.{BeginsAt, TakesIn}
 use Rattle.flow_reader.specs.declared.opening.Opening.{Opening}
 use Rattle.flow_reader.specs.declared.opening.RowRefused.{RowRefused}
@@ -32,7 +32,7 @@ module _ (shape : Size) (nodes : ℕ) (flows : List Flow) (number : ℕ) (found 
 
   -- a row that is refused
   pub opening_from-refused : (said : Result Opening BadRow) (refusal : RowRefused) (new kept : List Flow) → opening_from shape before flows number ≡ said → nodes ≡ shape.nodes → found ≡ true → TakesRow found before row after
-      → TakesIn number (row_after nodes flows row) flows new (Err refusal)
+      → TakesIn number (row_after_flows nodes flows row) flows new (Err refusal)
       → BeginsAt shape said kept (Err refusal)
   unfolding opening_from
   opening_from-refused said (refused.Bad bad) new kept so_far same e t h =
@@ -41,14 +41,14 @@ module _ (shape : Size) (nodes : ℕ) (flows : List Flow) (number : ℕ) (found 
 
   -- the row `begin`
   pub opening_from-begin : (new : List Flow) → nodes ≡ shape.nodes → found ≡ true → TakesRow found before row after
-      → TakesIn number (row_after nodes flows row) flows new (Ok false)
+      → TakesIn number (row_after_flows nodes flows row) flows new (Ok false)
       → opening_from shape before flows number ≡ Ok (record { shape = shape; flows = new; begin_row = number })
   unfolding opening_from
   opening_from-begin new same e t h = rw (← same, took found before after row e t, h.0, h.1) refl
 
   -- a flow
   pub opening_from-flow : (new : List Flow) → nodes ≡ shape.nodes → found ≡ true → TakesRow found before row after
-      → TakesIn number (row_after nodes flows row) flows new (Ok true)
+      → TakesIn number (row_after_flows nodes flows row) flows new (Ok true)
       → opening_from shape before flows number ≡ opening_from shape after new (number + 1)
   unfolding opening_from
   opening_from-flow new same e t h = rw (← same, took found before after row e t, h.1, h.2) refl

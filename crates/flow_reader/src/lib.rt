@@ -14,7 +14,7 @@ mod row;
 mod rows;
 
 pub use fields::{address_field, flow_of, is_kind, key_at, node_field, number_field};
-pub use law::first_bad_row_law;
+pub use law::{first_bad_row_law, the_limits_are};
 pub use opening::{Flows, MOST_OCTETS, Opening, RowRefused};
 pub use rows::read_opening;
 

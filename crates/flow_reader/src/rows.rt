@@ -1,13 +1,14 @@
 ghost use Rattle.std.specs.Prelude.{◌≡◌, ◌+◌, ◌<◌, ◌≤◌, ◌^◌, length, IfOk, OnOk};
+ghost use Rattle.flow_types.specs.Input.{most_octets};
 ghost use Rattle.csv_rows.specs.Reading.{IsReading, rows_left};
 ghost use Rattle.csv_rows.specs.Rows.{fields_of, rows};
 ghost use Rattle.flow_reader.specs.FirstBad.{IsOpening};
 ghost use Rattle.flow_reader.specs.Fit.{IsFit};
-ghost use Rattle.flow_reader.specs.Opening.{Answers, bad_row, opening_from, opening_of, row_after};
+ghost use Rattle.flow_reader.specs.Opening.{Answers, bad_row, opening_from, opening_of, row_after_flows};
 ghost use Rattle.flow_reader.specs.Steps.{BeginsAt, SaysShape, TakesIn};
 
 use crate::known::KnownFlows;
-use crate::opening::{MOST_OCTETS, Opening, RowRefused};
+use crate::opening::{Opening, RowRefused};
 use crate::row::{later_row, shape_of};
 use csv_rows::{ByteRecord, RowReader};
 use flow_types::{BadRow, Shape, Why};
@@ -20,7 +21,7 @@ use std::alloc::Global;
 /// kind is looked at first, then its number of fields, then its fields from left to right, then whether an earlier flow
 /// has its key. `OutOfMemory` may come at any row.
 pub fn read_opening(alloc: Global, bytes: &[u8]) -> Result<Opening, RowRefused>
-    requires { length bytes.now ≤ MOST_OCTETS }
+    requires { length bytes.now ≤ most_octets }
     ensures answers { Answers (opening_of (rows bytes.now)) result }
 
     // What that makes of an opening and of its rows.
@@ -90,7 +91,7 @@ fn take_row(
     nodes: u16,
     known: &mut KnownFlows,
 ) -> Result<bool, RowRefused>
-    ensures { TakesIn number (row_after nodes known.old (fields_of row.now)) known.old known.new result }
+    ensures { TakesIn number (row_after_flows nodes known.old (fields_of row.now)) known.old known.new result }
 {
     match later_row(row, nodes) {
         Ok(None) => Ok(false),

@@ -1,4 +1,4 @@
-use crate::{MOST_OCTETS, Opening, RowRefused, first_bad_row_law, read_opening};
+use crate::{MOST_OCTETS, Opening, RowRefused, first_bad_row_law, read_opening, the_limits_are};
 use flow_types::{BadRow, Flow, FlowKey, Record, Why};
 use std::alloc::Global;
 use std::test::Fail;
@@ -207,6 +207,7 @@ fn reads_up_to_begin(rt: HostRuntime) -> Result<(), Fail> {
 #[test]
 fn reads_the_fields_of_a_flow(rt: HostRuntime) -> Result<(), Fail> {
     first_bad_row_law();
+    the_limits_are();
     let text = b"cluster,4,1\nflow,10.0.0.1,192.0.2.7,1000,443,6,2,77,192.168.0.9\nbegin\n";
     let wanted = Flow {
         key: FlowKey {

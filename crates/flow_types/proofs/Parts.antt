@@ -9,7 +9,7 @@ use Rattle.std.specs.List.{position, position_or_len, slice_split, onto_first, j
 use Rattle.std.specs.Str.{all_ascii_digits}
 use Rattle.std.proofs.lemmas.List.Splits.{slice_split_none, slice_split_first, slice_split-cons_no, join_with_byte-slice_split}
 use Rattle.std.specs.Int.{IsInRange}
-use Rattle.flow_types.specs.Text.{is_dot, number_value, address_of_octets, below, four_octets, address_value}
+use Rattle.flow_types.specs.Text.{is_dot, number_value, address_of_octets, with_octet, four_octets, address_value}
 
 found : (text : List ℕ) (i : ℕ) → position is_dot text ≡ Some i → (i ≡ position_or_len is_dot text) × (i < length text)
 found text i h = (grind (arith, nat_tests), grind (arith, nat_tests))
@@ -56,7 +56,7 @@ not_digits : (text : List ℕ) → all_ascii_digits text ≡ false → number_va
 unfolding number_value
 not_digits text h = rw h (grind (arith, nat_tests))
 
-below_none : (upper : Option ℕ) → below upper None ≡ None
+below_none : (upper : Option ℕ) → with_octet upper None ≡ None
 below_none None = refl
 below_none (Some n) = refl
 

@@ -1,3 +1,4 @@
+pub mod Input
 pub mod Key
 pub mod Map
 pub mod Size

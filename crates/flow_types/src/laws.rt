@@ -4,9 +4,11 @@ ghost use Rattle.std.specs.Prelude.{◌≡◌, ◌↔◌, ℕ, ◌^◌, ◌<◌,
 ghost use Rattle.std.specs.Fmt.{decimal};
 ghost use Rattle.std.specs.Ordering.{nat_cmp};
 ghost use Rattle.flow_types.specs.Key.{number, key_of, octets};
+ghost use Rattle.flow_types.specs.Size.{IsShape};
 ghost use Rattle.flow_types.specs.Text.{number_value, address_value, address_text};
 
 use crate::key::FlowKey;
+use crate::shape::Shape;
 use std::cmp::Ordering;
 
 /// A text is a number of at most `max` exactly where it is what `{}` prints of that number.
@@ -47,3 +49,8 @@ pub fn order_of_keys(key: FlowKey, other: FlowKey) -> Ordering
 {
     key.cmp(&other)
 }
+
+/// The numbers of nodes and of blocks of every shape are in range.
+pub fn numbers_of_a_shape(shape: Shape)
+    ensures { IsShape shape.nodes shape.blocks }
+{}

@@ -1,3 +1,4 @@
+pub mod Limits
 pub mod Serving
 pub mod Rows
 pub mod Served

@@ -25,7 +25,7 @@ mod words;
 pub use choosing::{TooMany, canon, separable};
 pub use entry::{Entry, Pair};
 pub use image::BlockImage;
-pub use laws::{canonical_gives_each_node, canonical_ignores_order};
+pub use laws::{canonical_gives_each_node, canonical_ignores_order, the_limits_are};
 pub use limits::{FEWEST_ROWS, INDEXES, MOST_BITS, MOST_ENTRIES, MOST_ROWS, POSITIONS};
 pub use record::GroupRecord;
 pub use routing::{homes_route_each_flow, past_limit_names_the_first, records_give_each_handler};

@@ -1,4 +1,5 @@
 ghost use Rattle.std.specs.Prelude.{◌≡◌, ◌≤◌, length};
+ghost use Rattle.flow_types.specs.Size.{most_value_bits};
 ghost use Rattle.group_search.specs.Decoding.{decode, node_of, value_of};
 ghost use Rattle.group_search.specs.Canon.{rows_in};
 
@@ -53,7 +54,7 @@ impl GroupRecord {
 /// The number whose bit b is that of the b-th pair's array at the position that the pair gives a key with these
 /// hashes.
 fn value_at(pairs: &[Pair], hashes: HashPair) -> u8
-    requires { length pairs.now ≤ MOST_BITS }
+    requires { length pairs.now ≤ most_value_bits }
     ensures { result ≡ value_of hashes pairs.now }
 {
     let mut value = 0;

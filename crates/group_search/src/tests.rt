@@ -1,9 +1,10 @@
 ghost use Rattle.std.specs.Prelude.{◌≡◌, ◌<◌, ◌≤◌, IfOk, vec_len};
-ghost use Rattle.group_search.specs.Rows.{HaveDistinctKeys};
+ghost use Rattle.flow_types.specs.Map.{HaveDistinctKeys};
+ghost use Rattle.group_search.specs.Rows.{entry_key};
 
 use crate::{
     Entry, GroupRecord, Packed, Pair, Row, Rows, Served, TooMany, canon, canonical_gives_each_node,
-    canonical_ignores_order, least, pack, separable, unpack,
+    canonical_ignores_order, least, pack, separable, the_limits_are, unpack,
 };
 use flow_types::FlowKey;
 use hash_family::{HashPair, mix, position};
@@ -30,7 +31,7 @@ fn group(
     count: u8,
     one: Option<HashPair>,
 ) -> Result<Vec<Entry>, AllocError>
-    ensures { IfOk result (λ v. HaveDistinctKeys v.items × (vec_len v ≡ count)) }
+    ensures { IfOk result (λ v. HaveDistinctKeys entry_key v.items × (vec_len v ≡ count)) }
 {
     let mut entries = Vec::new(alloc);
     'keys: for made in 0..count {
@@ -151,6 +152,7 @@ fn falls_back_to_rows(rt: HostRuntime) -> Result<(), Fail> {
 fn gives_each_key_its_node(rt: HostRuntime) -> Result<(), Fail> {
     canonical_gives_each_node();
     canonical_ignores_order();
+    the_limits_are();
     let entries = group(rt.alloc(), 7, 16, None)?;
     assert!(rt; separable(&entries, 4));
     let record = canon(&entries, 4).map_err(|_| "too many")?;

@@ -15,7 +15,7 @@ use Rattle.group_search.specs.declared.record.GroupRecord.TheVariants.{Served, F
 use Rattle.group_search.specs.declared.rows.Row.{Row}
 use Rattle.group_search.specs.declared.limits.TheConstants.{MOST_ROWS}
 use Rattle.group_search.specs.Canon.{canonical, fallback, least_pairs, served_or}
-use Rattle.group_search.specs.Decoding.{below, decode, node_of, value_of}
+use Rattle.group_search.specs.Decoding.{as_node, decode, node_of, value_of}
 use Rattle.group_search.specs.Home.{home, is_home, opening}
 use Rattle.group_search.specs.Records.{AreHandled, content_of, entries, entry_of, record_of}
 use Rattle.group_search.specs.Rows.{key_number, put_row, row_of, rows_of}
@@ -52,7 +52,7 @@ module _ (nodes : ℕ) where
       by true later there = let same : row.node ≡ node = cc in let low = handled.0 in omega arith
       by false later there = later there
 
-  value_below : (value node : ℕ) → below nodes value ≡ Some node → node < nodes
+  value_below : (value node : ℕ) → as_node nodes value ≡ Some node → node < nodes
   value_below value node is = grind (arith, nat_tests)
 
   module _ (flows : List Flow) (handled : AreHandled nodes flows) (key : FlowKey) (node : ℕ) where

@@ -39,16 +39,16 @@ home_in table key = option_map (λ (image : Image). record { block = (place tabl
     (image_in table (place table.size.blocks key).block)
 
 -- the record of the key's group
-abbrev pub record_in : Table → FlowKey → Option GroupRecord
-record_in table key = option_and_then (λ (image : Image). slice_get image.records (group_in image table.size.blocks key))
+abbrev pub group_record_in : Table → FlowKey → Option GroupRecord
+group_record_in table key = option_and_then (λ (image : Image). slice_get image.records (group_in image table.size.blocks key))
     (image_in table (place table.size.blocks key).block)
 
 -- the node that this record gives the key, if any
 abbrev pub node_in : Table → FlowKey → Option ℕ
-node_in table key = decoded table.size key (record_in table key)
+node_in table key = decoded table.size key (group_record_in table key)
 
 -- the table says of each key in the owner's blocks what the flows do: its home, the record there, and where it is sent
 pub record IsTableOf (size : Size) (flows : List Flow) (owner : ℕ) (table : Table) : Type 0 where
   pub homes : (key : FlowKey) → IsOwned size owner key → home_in table key ≡ Some (home size.blocks flows key)
-  pub records : (key : FlowKey) → IsOwned size owner key → record_in table key ≡ record_of size flows (home size.blocks flows key)
+  pub records : (key : FlowKey) → IsOwned size owner key → group_record_in table key ≡ record_of size flows (home size.blocks flows key)
   pub routes : (key : FlowKey) → IsOwned size owner key → node_in table key ≡ routed size flows key

@@ -1,7 +1,7 @@
 ghost use Rattle.std.specs.Prelude.{◌≡◌, ◌<◌, ◌≤◌, ◌+◌, ◌*◌, IfOk, IsSome, List, length};
 ghost use Rattle.flow_types.specs.declared.record.Flow.{Flow};
 ghost use Rattle.group_search.specs.Build.{IsBuild};
-ghost use Rattle.replica_shard.specs.Table.{AreImagesOf, IsOwned, IsTableOf, home_in, node_in, record_in};
+ghost use Rattle.replica_shard.specs.Table.{AreImagesOf, IsOwned, IsTableOf, home_in, node_in, group_record_in};
 
 use crate::routing::Route;
 use flow_types::{FlowKey, Shape};
@@ -63,7 +63,7 @@ impl PlainShard {
     pub fn route(&self, key: FlowKey) -> Route
         requires { IsOwned self.now.size self.now.owner key }
         ensures value { result ≡ record { version = 0; node = node_in self.now key } }
-        ensures there { IsSome (record_in self.now key) }
+        ensures there { IsSome (group_record_in self.now key) }
     {
         let nodes = self.shape.nodes();
         let place = place(self.shape, key);

@@ -2,7 +2,7 @@ ghost use Rattle.std.specs.Prelude.{◌≡◌, OnOk, length, map};
 ghost use Rattle.std.specs.List.{range_with_len};
 ghost use Rattle.group_search.specs.Home.{group_of};
 ghost use Rattle.setsep_build.specs.Placing.{gathered, groups_of};
-ghost use Rattle.block_layout.specs.declared.limits.TheConstants.{BUCKETS};
+ghost use Rattle.block_layout.specs.Limits.{bucket_count};
 
 use crate::block::Placed;
 use block_layout::{BUCKETS, Choices};

@@ -10,6 +10,7 @@ mod block;
 mod building;
 mod gathering;
 mod imaging;
+mod laws;
 mod records;
 mod refused;
 mod sizing;
@@ -18,4 +19,5 @@ mod spreading;
 mod tests;
 
 pub use building::{MOST_WORKERS, build};
+pub use laws::the_limits_are;
 pub use refused::BuildRefused;

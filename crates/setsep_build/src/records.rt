@@ -1,11 +1,12 @@
 ghost use Rattle.std.specs.Prelude.{◌≡◌, ◌<◌, ◌≤◌, ◌+◌, ◌++◌, ◌^◌, OnOk, IfOk, length, option_to_list};
+ghost use Rattle.flow_types.specs.Map.{HaveDistinctKeys};
+ghost use Rattle.setsep_build.specs.Placing.{placed_key};
+ghost use Rattle.group_search.specs.Rows.{entry_key};
 ghost use Rattle.group_search.specs.Build.{rows_needed};
 ghost use Rattle.group_search.specs.Canon.{canonical};
-ghost use Rattle.group_search.specs.Rows.{HaveDistinctKeys};
-ghost use Rattle.group_search.specs.declared.limits.TheConstants.{MOST_BITS, MOST_ENTRIES};
-ghost use Rattle.block_layout.specs.declared.limits.TheConstants.{GROUPS};
+ghost use Rattle.flow_types.specs.Size.{most_value_bits};
+ghost use Rattle.block_layout.specs.Limits.{most_keys, group_count};
 ghost use Rattle.setsep_build.specs.Block.{needed_below, records_below};
-ghost use Rattle.setsep_build.specs.Placing.{AreApart};
 
 use crate::block::Placed;
 use crate::gathering::gather;
@@ -26,9 +27,9 @@ impl Records {
     /// Adds the record of a group with these entries, where it has one, and the rows that it needs.
     fn add(&mut self, bits: u8, entries: &[Entry]) -> Result<(), AllocError>
         requires enough_bits { 1 ≤ bits }
-        requires few_bits { bits ≤ MOST_BITS }
-        requires distinct { HaveDistinctKeys entries.now }
-        requires few { length entries.now ≤ MOST_ENTRIES }
+        requires few_bits { bits ≤ most_value_bits }
+        requires distinct { HaveDistinctKeys entry_key entries.now }
+        requires few { length entries.now ≤ most_keys }
         requires room { self.old.needed < 2 ^ 31 }
         ensures kept { OnOk result (self.new.kept.items ≡ self.old.kept.items ++ option_to_list (canonical bits entries.now)) }
         ensures needed { OnOk result (self.new.needed ≡ self.old.needed + rows_needed bits entries.now) }
@@ -55,11 +56,11 @@ pub fn records_of(
     room: &mut Vec<Entry>,
 ) -> Result<Records, AllocError>
     requires enough_bits { 1 ≤ bits }
-    requires few_bits { bits ≤ MOST_BITS }
-    requires apart { AreApart placed.now }
-    requires few { length placed.now ≤ MOST_ENTRIES }
-    ensures kept { IfOk result (λ records. records.kept.items ≡ records_below GROUPS bits groups.now placed.now) }
-    ensures needed { IfOk result (λ records. records.needed ≡ needed_below GROUPS bits groups.now placed.now) }
+    requires few_bits { bits ≤ most_value_bits }
+    requires apart { HaveDistinctKeys placed_key placed.now }
+    requires few { length placed.now ≤ most_keys }
+    ensures kept { IfOk result (λ records. records.kept.items ≡ records_below group_count bits groups.now placed.now) }
+    ensures needed { IfOk result (λ records. records.needed ≡ needed_below group_count bits groups.now placed.now) }
 {
     let mut records = Records {
         kept: Vec::with_capacity(alloc, GROUPS as usize)?,

@@ -1,7 +1,8 @@
 ghost use Rattle.std.specs.Prelude.{◌≤◌, IfOk};
-ghost use Rattle.group_search.specs.Records.{AreDistinct, AreHandled};
+ghost use Rattle.flow_types.specs.Map.{AreDistinct};
+ghost use Rattle.group_search.specs.Records.{AreHandled};
 
-use crate::{BuildRefused, build};
+use crate::{BuildRefused, build, the_limits_are};
 use block_layout::GROUPS;
 use flow_types::{Flow, FlowKey, Record, Shape};
 use group_search::{BlockImage, GroupRecord, Pair};
@@ -57,6 +58,7 @@ fn routed(images: &[BlockImage], shape: Shape, key: FlowKey) -> Option<u8> {
 #[test]
 fn gives_each_flow_its_handler(rt: HostRuntime) -> Result<(), Fail> {
     let alloc = rt.alloc();
+    the_limits_are();
     let shape = Shape::new(16, 3).ok_or("16 nodes and 3 blocks")?;
     let flows = flows(alloc, shape, 3_000, 16, None)?;
     assert_eq!(rt; flows.len(), 3_000);

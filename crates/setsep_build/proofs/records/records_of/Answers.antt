@@ -1,8 +1,9 @@
 use Rattle.std.proofs.Common.{◌≡◌, ◌∙◌, ◌++◌, List, length, ap, sym, arith, subst}
 use Rattle.std.specs.Prelude.{option_to_list}
+use Rattle.flow_types.specs.Map.{HaveDistinctKeys}
+use Rattle.group_search.specs.Rows.{entry_key}
 use Rattle.group_search.specs.declared.entry.Entry.{Entry}
 use Rattle.group_search.specs.declared.record.GroupRecord.{GroupRecord}
-use Rattle.group_search.specs.Rows.{HaveDistinctKeys}
 use Rattle.group_search.specs.Canon.{canonical}
 use Rattle.group_search.specs.Build.{rows_needed}
 use Rattle.group_search.proofs.NeededRows.{few_needed}
@@ -21,7 +22,7 @@ groups-init c = record {
 pub add-requires-clause-distinct : goal.add-requires-clause-distinct
 add-requires-clause-distinct c =
     let is : c.as_slice.result.now ≡ gathered c.args.groups.now c.groups.group c.args.placed.now = c.as_slice.ensures.value ∙ c.in_ok-gather.ensures in
-    subst HaveDistinctKeys (sym is) (gathered_distinct c.args.groups.now c.groups.group c.args.placed.now c.requires.apart)
+    subst (HaveDistinctKeys entry_key) (sym is) (gathered_distinct c.args.groups.now c.groups.group c.args.placed.now c.requires.apart)
 
 pub add-requires-clause-few : goal.add-requires-clause-few
 add-requires-clause-few c =
