@@ -18,7 +18,8 @@ use Rattle.packet_reader.specs.declared.mode.Mode.TheVariants.{Replay, Storm}
 use Rattle.packet_reader.specs.FirstBad.{BreaksAfter, IsFirstBadAfter, IsPhaseTooMany, IsScript, SayEvents, ScriptLaw}
 use Rattle.packet_reader.specs.Form.{HasFewPhases}
 use Rattle.packet_reader.specs.Mode.{is_one_too_many, syncs_of}
-use Rattle.packet_reader.specs.Script.{Progress, counted, script_from, script_next, script_of, script_row}
+use Rattle.packet_reader.specs.Script.{Progress, counted, script_from, script_of, script_row}
+use Rattle.packet_reader.proofs.Scripts.{goes_on}
 
 -- what an event's row says
 abbrev says_event : Event → Result (Option Event) Why
@@ -56,7 +57,7 @@ too-many Storm shape events row (Packet ingress key) few many says = cc many
 too-many Storm shape events row (Carry node owner turn part) few many says = cc many
 too-many Storm shape events row Sync few many says =
     let enough = leb-true 256 (syncs_of events + 1) many in
-    record { in_storm = refl; says_sync = says; is_last = omega arith }
+    record { in_storm = refl; says_sync = says; makes_256 = omega arith }
 
 -- where all events make few phases, none of them is one `sync` too many
 fits : (mode : Mode) (before : List Event) (event : Event) (after : List Event) → HasFewPhases mode (before ++ event ∷ after) → is_one_too_many mode before event ≡ false
@@ -108,7 +109,7 @@ module _ (mode : Mode) (shape : Size) where
       where
         with_event : (event : Event) (many : Bool) → is_one_too_many mode events event ≡ many → script_row mode shape row ≡ Ok (Some event)
             → ((more : List Row) (es : List Event) (k : ℕ) → SayEvents mode shape more es → k ≡ begin_row + length more + 1 → Said (more ++ rest) (script_from mode shape rest (going_on es) k))
-            → Said (before ++ row ∷ rest) (script_next (script_from mode shape rest) (going_on events) number (if many then Err why.TooManyPhases else Ok (Some event)))
+            → Said (before ++ row ∷ rest) (goes_on mode shape rest (going_on events) number (if many then Err why.TooManyPhases else Ok (Some event)))
         with_event event true many says ih =
             inl (record {
               before = before;
@@ -125,7 +126,7 @@ module _ (mode : Mode) (shape : Size) where
 
         by : (o : Result (Option Event) Why) → script_row mode shape row ≡ o
             → ((more : List Row) (es : List Event) (k : ℕ) → SayEvents mode shape more es → k ≡ begin_row + length more + 1 → Said (more ++ rest) (script_from mode shape rest (going_on es) k))
-            → Said (before ++ row ∷ rest) (script_next (script_from mode shape rest) (going_on events) number (and_then o (counted mode events)))
+            → Said (before ++ row ∷ rest) (goes_on mode shape rest (going_on events) number (and_then o (counted mode events)))
         by (Err reason) says ih = inl (record { before = before; row = row; after = rest; split = refl; breaks = inl (events, said, says); number = n })
         by (Ok None) says ih =
             rw (append-nil events, ← append_assoc before (row ∷ []) rest)
@@ -172,7 +173,7 @@ module _ (mode : Mode) (shape : Size) where
 
     -- a storm's 256th `sync` is one too many
     is-too-many : (events : List Event) (row : Row) → IsPhaseTooMany mode shape events row → is_one_too_many mode events Sync ≡ true
-    is-too-many events row many = rw (many.in_storm, many.is_last) refl
+    is-too-many events row many = rw (many.in_storm, many.makes_256) refl
 
     bad-after : (before : List Row) (row : Row) (after : List Row) (bad : BadRow) → BreaksAfter mode shape before row bad.why → bad.row ≡ begin_row + length before + 1
         → script_of mode shape begin_row (before ++ row ∷ after) ≡ Err bad

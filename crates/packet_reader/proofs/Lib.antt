@@ -1,2 +1,3 @@
-mod Scripts
+pub mod Scripts
 pub mod FirstBadFacts
+mod Vectors

@@ -13,7 +13,11 @@ use Rattle.packet_reader.specs.declared.kind.Kind.{Kind}
 use Rattle.packet_reader.specs.declared.mode.Mode.{Mode}
 use Rattle.packet_reader.specs.Form.{IsFormed, IsOfKind}
 use Rattle.packet_reader.specs.Mode.{may_stand}
-use Rattle.packet_reader.specs.Script.{Progress, row_after, script_ends, script_from, script_next, script_of, start, with_row}
+use Rattle.packet_reader.specs.Script.{Progress, row_after, script_ends, refused_or, script_from, script_of, start, with_row, with_said}
+
+-- what the rows say, where the first of them says this
+abbrev pub goes_on : Mode → Size → List Row → Progress → ℕ → Result (Option Event) Why → Result (List Event) BadRow
+goes_on mode shape rest so_far number said = refused_or number said (script_from mode shape rest (with_said so_far said) (number + 1))
 
 -- one more row skipped
 pub row_skipped : (found : Bool) (all before after : List Row) (row : Row) (i : ℕ) → i < length all → before ≡ drop i all → TakesRow found before row after → after ≡ drop (i + 1) all
@@ -28,7 +32,7 @@ script_begins mode shape begin_row rest = refl
 module _ (mode : Mode) (shape : Size) (so_far : Progress) (number : ℕ) (before after : List Row) (row : Row) (whole : Result (List Event) BadRow) (found : Bool)
     (takes : TakesRow found before row after) (said_so_far : script_from mode shape before so_far number ≡ whole) where
   module _ (there : found ≡ true) where
-    read_on : script_next (script_from mode shape after) so_far number (row_after mode shape so_far row) ≡ whole
+    read_on : goes_on mode shape after so_far number (row_after mode shape so_far row) ≡ whole
     unfolding script_from
     read_on =
         let taken = subst (λ f. TakesRow f before row after) there takes in
@@ -39,11 +43,11 @@ module _ (mode : Mode) (shape : Size) (so_far : Progress) (number : ℕ) (before
         → script_from mode shape after then (number + 1) ≡ whole
     row_says said then says is =
         ap (λ p. script_from mode shape after p (number + 1)) is
-        ∙ sym (ap (script_next (script_from mode shape after) so_far number) says) ∙ read_on
+        ∙ sym (ap (goes_on mode shape after so_far number) says) ∙ read_on
 
     -- the row is bad
     pub row_refused : (reason : Why) → row_after mode shape so_far row ≡ Err reason → whole ≡ Err (bad_row number reason)
-    row_refused reason says = sym read_on ∙ ap (script_next (script_from mode shape after) so_far number) says
+    row_refused reason says = sym read_on ∙ ap (goes_on mode shape after so_far number) says
 
     -- there is one row less
     pub fewer : length before ≡ length after + 1

@@ -30,7 +30,7 @@ pub record IsScript (mode : Mode) (shape : Size) (rest : List Row) (events : Lis
 pub record IsPhaseTooMany (mode : Mode) (shape : Size) (events : List Event) (row : Row) : Type 0 where
   pub in_storm : mode ≡ Storm
   pub says_sync : script_row mode shape row ≡ Ok (Some Sync)
-  pub is_last : syncs_of events + 1 ≡ 256
+  pub makes_256 : syncs_of events + 1 ≡ 256
 
 -- a row breaks a rule for this reason, and the rows between `begin` and it break none: it is bad by itself, or it is one
 -- `sync` too many, or it stands after the `end`

@@ -53,15 +53,22 @@ with_row so_far said = record { events = so_far.events ++ option_to_list said; e
 abbrev pub script_ends : Progress → ℕ → Result (List Event) BadRow
 script_ends so_far number = if so_far.ended then Ok so_far.events else Err (bad_row number why.NoEnd)
 
--- what the rows say from a row on: `more` is what the rows after it say
-abbrev pub script_next : (Progress → ℕ → Result (List Event) BadRow) → Progress → ℕ → Result (Option Event) Why → Result (List Event) BadRow
-script_next more so_far number (Err reason) = Err (bad_row number reason)
-script_next more so_far number (Ok said) = more (with_row so_far said) (number + 1)
+-- what was read after one more row, where that isn't bad
+abbrev pub with_said : Progress → Result (Option Event) Why → Progress
+with_said so_far (Ok said) = with_row so_far said
+with_said so_far (Err reason) = so_far
+
+-- a bad row is the answer, and any other leaves the answer to the rows after it
+abbrev pub refused_or : (number : ℕ) → (said : Result (Option Event) Why) → (later : Result (List Event) BadRow) → Result (List Event) BadRow
+refused_or number (Ok said) later = later
+refused_or number (Err reason) later = Err (bad_row number reason)
 
 -- what the rows say from the row of this number on
 unfoldable pub script_from : Mode → Size → List Row → Progress → ℕ → Result (List Event) BadRow
 script_from mode shape [] so_far number = script_ends so_far number
-script_from mode shape (row ∷ rest) so_far number = script_next (script_from mode shape rest) so_far number (row_after mode shape so_far row)
+script_from mode shape (row ∷ rest) so_far number =
+    let said = row_after mode shape so_far row in
+    refused_or number said (script_from mode shape rest (with_said so_far said) (number + 1))
 
 -- the script that the rows after `begin` say, or the first of them that is bad; `begin` stands in the row of this number
 unfoldable pub script_of : Mode → Size → ℕ → List Row → Result (List Event) BadRow

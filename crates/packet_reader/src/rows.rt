@@ -1,4 +1,5 @@
 ghost use Rattle.std.specs.Prelude.{◌≡◌, ◌+◌, ◌<◌, ◌≤◌, ◌^◌, All, length, drop, IfOk, OnOk};
+ghost use Rattle.flow_types.specs.Input.{most_octets};
 ghost use Rattle.csv_rows.specs.Reading.{IsReading, rows_left};
 ghost use Rattle.csv_rows.specs.Rows.{rows};
 ghost use Rattle.flow_reader.specs.Opening.{bad_row};
@@ -28,7 +29,7 @@ pub fn read_script(
     shape: Shape,
     mode: Mode,
 ) -> Result<Vec<Event>, RowRefused>
-    requires limit { length bytes.now ≤ 67108864 }
+    requires limit { length bytes.now ≤ most_octets }
     requires begun { begin_row ≤ length (rows bytes.now) }
     ensures answers { Answers (script_of mode shape begin_row (drop begin_row (rows bytes.now))) result }
 

@@ -1,5 +1,6 @@
-use crate::{Event, Mode, Part, first_bad_row_law, read_script};
-use flow_reader::{MOST_OCTETS, RowRefused, read_opening};
+use crate::{Event, Mode, Part, first_bad_row_law, read_script, read_script_from};
+use csv_rows::RowReader;
+use flow_reader::{MOST_OCTETS, RowRefused, read_opening, read_opening_from};
 use flow_types::{BadRow, Flow, FlowKey, Record, Why};
 use std::alloc::Global;
 use std::test::Fail;
@@ -368,6 +369,34 @@ fn reads_whole_inputs(rt: HostRuntime) -> Result<(), Fail> {
             Err(bad) => Err(bad),
         };
         assert_eq!(rt; found, wanted, "{text:?}");
+    }
+    Ok(())
+}
+
+// Both readers go on with one reader of rows.
+#[test]
+fn reads_in_one_pass(rt: HostRuntime) -> Result<(), Fail> {
+    let text = b"cluster,4,1\nflow,10.0.0.1,192.0.2.7,1000,443,6,2,77,192.168.0.9\nbegin\ndel,10.0.0.1,192.0.2.7,1000,443,6\nsync\nend\n";
+    let mut reader = RowReader::new(rt.alloc(), text);
+    let opening = match read_opening_from(rt.alloc(), &mut reader) {
+        Ok(opening) => opening,
+        Err(refused) => {
+            assert!(rt; false, "refused: {refused:?}");
+            return Ok(());
+        }
+    };
+    match read_script_from(
+        rt.alloc(),
+        &mut reader,
+        opening.begin_row,
+        opening.shape,
+        Mode::Storm,
+    ) {
+        Ok(events) => {
+            let wanted = [Event::Del(KEY), Event::Sync];
+            assert!(rt; events.as_slice() == wanted.as_slice(), "{events:?}");
+        }
+        Err(refused) => assert!(rt; false, "refused: {refused:?}"),
     }
     Ok(())
 }
