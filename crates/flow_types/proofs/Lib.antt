@@ -1,7 +1,8 @@
 pub mod Addresses
 pub mod Decimals
+pub mod Digits
+pub mod Dotted
 pub mod Numerals
 pub mod Octets
-pub mod Parts
 pub mod Reading
 pub mod ValueBits
