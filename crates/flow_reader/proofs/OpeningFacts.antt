@@ -1,5 +1,5 @@
 -- What the next row does to what the rows say.
-use Rattle.std.proofs.Common.{◌≡◌, ◌+◌, ℕ, Bool, true, false, List, [], ◌∷◌, length, Result, Ok, Err, refl, sym, ap, arith}
+use Rattle.std.proofs.Common.{◌≡◌, ◌+◌, ◌-◌, ◌≤◌, ◌∙◌, ℕ, zero, suc, Bool, true, false, List, [], ◌∷◌, length, drop, Result, Ok, Err, refl, sym, ap, arith}
 use Rattle.flow_types.specs.Size.{Size}
 use Rattle.flow_types.specs.declared.record.Flow.{Flow}
 use Rattle.flow_types.specs.declared.why.BadRow.{BadRow}
@@ -23,6 +23,23 @@ none_left false before after row e t = t
 -- so one row fewer is left
 pub length-took : (found : Bool) (before after : List Row) (row : Row) → found ≡ true → TakesRow found before row after → length before ≡ length after + 1
 length-took found before after row e t = rw (took found before after row e t) (omega arith)
+
+-- it follows the rows taken so far
+after_more : (number : ℕ) (all before after : List Row) (row : Row) → before ≡ drop number all → before ≡ row ∷ after → after ≡ drop (suc number) all
+after_more zero all before after row left taken = rw (sym left ∙ taken) refl
+after_more (suc number) [] before after row left taken = cc (sym taken ∙ left)
+after_more (suc number) (first ∷ all) before after row left taken = after_more number all before after row left taken
+
+pub left_more : (found : Bool) (all before after : List Row) (row : Row) (number next : ℕ) → found ≡ true → TakesRow found before row after → before ≡ drop number all → next ≡ suc number
+    → after ≡ drop next all
+left_more found all before after row number next e t left is = rw is (after_more number all before after row left (took found before after row e t))
+
+-- the rows after the first are counted from it
+pub left_after : (number : ℕ) (all rest left : List Row) (first : Row) → 1 ≤ number → all ≡ first ∷ rest → left ≡ drop (number - 1) rest → left ≡ drop number all
+left_after zero all rest left first some taken is = absurd (omega arith)
+left_after (suc number) all rest left first some taken is =
+    let same : suc number - 1 ≡ number = omega arith in
+    rw taken (is ∙ ap (λ n. drop n rest) same)
 
 -- no row: the rows end before `begin`
 module _ (shape : Size) (nodes : ℕ) (flows : List Flow) (number : ℕ) (found : Bool) (before after : List Row) (row : Row) where

@@ -2,8 +2,9 @@ pub mod Addresses
 pub mod Decimals
 pub mod Elements
 pub mod KeyedFlows
+pub mod Digits
+pub mod Dotted
 pub mod Numerals
 pub mod Octets
-pub mod Parts
 pub mod Reading
 pub mod ValueBits

@@ -3,3 +3,4 @@ pub mod Key
 pub mod Map
 pub mod Size
 pub mod Text
+pub mod Octet
