@@ -1,4 +1,5 @@
 pub mod Serving
+pub mod Lanes
 pub mod Rows
 pub mod Served
 pub mod ServedFields
