@@ -4,7 +4,7 @@ ghost use Rattle.group_search.specs.Rows.{entry_key};
 
 use crate::{
     Entry, GroupRecord, Packed, Pair, Row, Rows, Served, TooMany, canon, canonical_gives_each_node,
-    canonical_ignores_order, least, pack, separable, the_limits_are, unpack,
+    canonical_ignores_order, least, least_plain, pack, separable, the_limits_are, unpack,
 };
 use flow_types::FlowKey;
 use hash_family::{HashPair, mix, position};
@@ -103,6 +103,69 @@ fn least_is_the_first_of_a_plain_scan(rt: HostRuntime) -> Result<(), Fail> {
             plain_least(&entries, 0),
             "{count} keys"
         );
+    }
+    Ok(())
+}
+
+/// So many entries with bit 1, and then others with bit 0, with drawn pairs.
+fn drawn(alloc: Global, ones: u16, zeros: u16) -> Result<Vec<Entry>, AllocError> {
+    let mut entries = Vec::new(alloc);
+    for made in 0..u32::from(ones) + u32::from(zeros) {
+        let drawn = mix(u64::from(made));
+        let pair = HashPair {
+            g1: (drawn >> 32) as u32,
+            g2: (drawn & 0xFFFF_FFFF) as u32,
+        };
+        let node = u8::from(made < u32::from(ones));
+        entries.push(Entry {
+            pair,
+            key: key(made, 0),
+            node,
+        })?;
+    }
+    Ok(entries)
+}
+
+#[test]
+fn least_is_that_of_the_plain_search(rt: HostRuntime) -> Result<(), Fail> {
+    for (ones, zeros) in [
+        (0, 0),
+        (1, 0),
+        (3, 4),
+        (8, 8),
+        (1, 39),
+        (39, 1),
+        (1, 64),
+        (1, 1535),
+    ] {
+        let entries = drawn(rt.alloc(), ones, zeros)?;
+        assert_eq!(rt;
+            least(&entries, 0),
+            least_plain(&entries, 0),
+            "{ones} and {zeros}"
+        );
+        assert_eq!(rt; least(&entries, 7), least_plain(&entries, 7), "bit 7");
+    }
+    Ok(())
+}
+
+/// All zeros stand at position 0, and the one leaves it at the last index, or never.
+#[test]
+fn least_comes_to_the_last_index(rt: HostRuntime) -> Result<(), Fail> {
+    let last = Pair {
+        index: 65_535,
+        array: 2,
+    };
+    for (step, found) in [(8192, Some(last)), (0, None)] {
+        for zeros in [1, 6, 15, 39, 64, 1535] {
+            let mut entries = drawn(rt.alloc(), 1, zeros)?;
+            for entry in entries.iter_mut() {
+                let step = if entry.node == 1 { step } else { 0 };
+                entry.pair = HashPair { g1: step, g2: step };
+            }
+            assert_eq!(rt; least(&entries, 0), found, "{zeros} zeros");
+            assert_eq!(rt; least_plain(&entries, 0), found, "{zeros} zeros");
+        }
     }
     Ok(())
 }

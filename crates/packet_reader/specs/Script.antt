@@ -1,6 +1,5 @@
 -- The rows after `begin`, as the events of a script.
-use Rattle.std.specs.Prelude.{◌≡◌, ℕ, ◌+◌, Bool, false, if◌then◌else◌, List, [], ◌∷◌, ◌++◌, Option, Some, None, is_none, option_to_list, Result, Ok, Err, Vec}
-use Rattle.std.specs.Global.{Global}
+use Rattle.std.specs.Prelude.{ℕ, ◌+◌, Bool, false, if◌then◌else◌, List, [], ◌∷◌, ◌++◌, Option, Some, None, is_none, option_to_list, Result, Ok, Err}
 use Rattle.flow_types.specs.Size.{Size}
 use Rattle.flow_types.specs.declared.why.BadRow.{BadRow}
 use Rattle.flow_types.specs.declared.why.Why.{Why}
@@ -8,8 +7,6 @@ use Rattle.flow_types.specs.declared.why.Why.TheVariants as why
 use Rattle.csv_rows.specs.Rows.{Row}
 use Rattle.flow_reader.specs.Fields.{and_then}
 use Rattle.flow_reader.specs.Opening.{with_fields, bad_row}
-use Rattle.flow_reader.specs.declared.opening.RowRefused.{RowRefused}
-use Rattle.flow_reader.specs.declared.opening.RowRefused.TheVariants.{Bad, OutOfMemory}
 use Rattle.packet_reader.specs.declared.event.Event.{Event}
 use Rattle.packet_reader.specs.declared.kind.Kind.{Kind}
 use Rattle.packet_reader.specs.declared.mode.Mode.{Mode}
