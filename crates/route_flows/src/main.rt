@@ -40,7 +40,13 @@ fn node_of(images: &[BlockImage], shape: Shape, key: FlowKey) -> Option<u8> {
 
 /// The key of packets from this port of 10.0.0.1 to port 443 of 192.0.2.7 by TCP.
 fn key(source_port: u16) -> FlowKey
-    ensures { result ≡ record { source = 0x0A000001; destination = 0xC0000207; source_port = source_port; destination_port = 443; protocol = 6 } }
+    ensures { result ≡ record {
+      source = 0x0A000001;
+      destination = 0xC0000207;
+      source_port = source_port;
+      destination_port = 443;
+      protocol = 6;
+    } }
 {
     FlowKey {
         source: 0x0A00_0001,
