@@ -157,9 +157,10 @@ impl Cluster {
         requires { ingress < self.now.size.nodes }
         ensures { result ≡ record { version = 0; node = routed self.now.size self.now.flows key } }
     {
-        let owner = self.shape.owner(place(self.shape, key).block);
+        let home = place(self.shape, key);
+        let owner = self.shape.owner(home.block);
         let at = &self.nodes[usize::from(ingress)];
         let shard = &at.shards[usize::from(owner)];
-        shard.route(key)
+        shard.route_at(home, key)
     }
 }

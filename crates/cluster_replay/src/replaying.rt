@@ -11,7 +11,8 @@ use crate::cluster::open;
 use crate::fault::InputFault;
 use crate::reporting::report;
 use crate::script::read_script;
-use flow_reader::read_opening;
+use csv_rows::RowReader;
+use flow_reader::read_opening_from;
 use std::alloc::Global;
 use std::thread::Threads;
 
@@ -31,8 +32,9 @@ pub fn replay<R: Threads>(
     ensures answers { Answers (λ text. text.items) named_fault (outcome bytes.now) result }
     ensures run { IfOk result (λ text. IsRunOf Replay 1 bytes.now text.items) }
 {
-    let opening = read_opening(alloc, bytes)?;
-    let script = read_script(alloc, bytes, opening.begin_row, opening.shape)?;
+    let mut reader = RowReader::new(alloc, bytes);
+    let opening = read_opening_from(alloc, &mut reader)?;
+    let script = read_script(alloc, reader, opening.begin_row, opening.shape.nodes())?;
     let mut cluster = match open(rt, alloc, &opening, workers) {
         Ok(cluster) => cluster,
         Err(fault) => return Err(fault),

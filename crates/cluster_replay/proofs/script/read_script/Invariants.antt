@@ -2,7 +2,7 @@ use Rattle.std.proofs.Common.{◌≡◌, ◌+◌, ◌≤◌, length}
 use Rattle.std.specs.Prelude.{All}
 use Rattle.csv_rows.specs.Reading.{IsReading, rows_left}
 use Rattle.cluster_replay.specs.Script.{IsFormed, script_from, script_of}
-use Rattle.cluster_replay.proofs.script.read_rows.Given as goal
+use Rattle.cluster_replay.proofs.script.read_script.Given as goal
 
 -- the rows that are left say, after the events so far, what all rows say
 abbrev pub invariant-rows : goal.invariant-rows

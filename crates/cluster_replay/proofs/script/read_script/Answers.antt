@@ -1,6 +1,6 @@
 use Rattle.std.proofs.Common.{sym, arith}
 use Rattle.cluster_replay.proofs.Scripts.{row_says, row_refused, ends_well, lacks_end, fewer, formed_more}
-use Rattle.cluster_replay.proofs.script.read_rows.Goals as goal
+use Rattle.cluster_replay.proofs.script.read_script.Goals as goal
 
 pub returns-in-Err-clause-says : goal.returns-in-Err-clause-says
 returns-in-Err-clause-says c =
