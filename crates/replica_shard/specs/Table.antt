@@ -5,7 +5,7 @@ use Rattle.flow_types.specs.declared.key.FlowKey.{FlowKey}
 use Rattle.flow_types.specs.declared.record.Flow.{Flow}
 use Rattle.flow_types.specs.Size.{Size}
 use Rattle.hash_family.specs.Hash.{place}
-use Rattle.hash_family.specs.declared.placing.Place.{Place}
+use Rattle.hash_family.specs.declared.bucket.Place.{Place}
 use Rattle.group_search.specs.declared.record.GroupRecord.{GroupRecord}
 use Rattle.group_search.specs.Home.{Home, group_of, home}
 use Rattle.group_search.specs.Image.{Image}
