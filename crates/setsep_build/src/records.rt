@@ -1,4 +1,4 @@
-ghost use Rattle.std.specs.Prelude.{◌≡◌, ◌<◌, ◌≤◌, ◌+◌, ◌++◌, ◌^◌, OnOk, IfOk, length, option_to_list};
+ghost use Rattle.std.specs.Prelude.{ℕ, ◌≡◌, ◌<◌, ◌≤◌, ◌+◌, ◌++◌, ◌^◌, OnOk, IfOk, All, length, option_to_list};
 ghost use Rattle.group_search.specs.Build.{rows_needed};
 ghost use Rattle.group_search.specs.Canon.{canonical};
 ghost use Rattle.group_search.specs.Rows.{HaveDistinctKeys};
@@ -8,7 +8,7 @@ ghost use Rattle.setsep_build.specs.Block.{needed_below, records_below};
 ghost use Rattle.setsep_build.specs.Placing.{AreApart};
 
 use crate::block::Placed;
-use crate::gathering::gather;
+use crate::groups::Groups;
 use block_layout::{BUCKETS, GROUPS};
 use group_search::{Entry, GroupRecord, canon};
 use std::alloc::{AllocError, Global};
@@ -46,18 +46,19 @@ impl Records {
 
 /// The records of all groups of a block with these flows.
 ///
-/// The room is for the entries of one group at a time.
+/// The room is for the entries of each group.
 pub fn records_of(
     alloc: Global,
     bits: u8,
     placed: &[Placed],
     groups: &[u8; BUCKETS],
-    room: &mut Vec<Entry>,
+    room: &mut Groups,
 ) -> Result<Records, AllocError>
     requires enough_bits { 1 ≤ bits }
     requires few_bits { bits ≤ MOST_BITS }
     requires apart { AreApart placed.now }
     requires few { length placed.now ≤ MOST_ENTRIES }
+    requires known { All (λ (group : ℕ). group < 64) groups.now }
     ensures kept { IfOk result (λ records. records.kept.items ≡ records_below GROUPS bits groups.now placed.now) }
     ensures needed { IfOk result (λ records. records.needed ≡ needed_below GROUPS bits groups.now placed.now) }
 {
@@ -65,9 +66,9 @@ pub fn records_of(
         kept: Vec::with_capacity(alloc, GROUPS as usize)?,
         needed: 0,
     };
+    room.gather(placed, groups)?;
     'groups: for group in 0..GROUPS {
-        gather(room, placed, groups, group)?;
-        records.add(bits, room.as_slice())?;
+        records.add(bits, room.entries(group))?;
     }
     Ok(records)
 }
