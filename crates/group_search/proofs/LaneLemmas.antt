@@ -1,10 +1,10 @@
 -- Sixteen lanes, one by one.
-use Rattle.std.proofs.Common.{ℕ, zero, suc, ◌≡◌, ◌∙◌, ◌+◌, ◌-◌, ◌*◌, ◌/◌, ◌%◌, ◌^◌, ◌<◌, ◌≤◌, Bool, true, false, cond, List, [], ◌∷◌, ◌++◌, map, length, get_or, replicate, w8, w32, Fits, eqb, ap, sym, refl, arith, subst}
-use Rattle.std.specs.Prelude.{bit_and, bit_or}
+use Rattle.std.proofs.Common.{ℕ, zero, suc, ◌≡◌, ◌∙◌, ◌+◌, ◌-◌, ◌*◌, ◌/◌, ◌%◌, ◌^◌, ◌<◌, Bool, true, false, cond, List, [], ◌∷◌, map, length, get_or, replicate, w8, w32, Fits, eqb, ap, sym, refl, arith, subst}
+use Rattle.std.specs.Prelude.{bit_and}
 use Rattle.std.specs.Simd.Lanes.{Each1, zip2, mask_l, pick_l, number_l, digits_l, top}
 use Rattle.std.proofs.lemmas.List.{ext_get_or, get_or-map, length-map}
 use Rattle.std.proofs.lemmas.List.FromFn.{get_or-map-range_with_len, length-map-range_with_len}
-use Rattle.std.proofs.lemmas.Simd.{swz_l, SwzOk, SwzOk-from_below, length-swz_l, get_or-swz_l_below, Each1-weaker, Each1-get_or, Each1-zip2, Each1-from_get_or, Each2-splat, length-zip2, get_or-zip2, get_or-replicate, length-replicate, pick_l_left, get_or_narrower, bitmask_splat, below_from_Fits}
+use Rattle.std.proofs.lemmas.Simd.{swz_l, SwzOk, SwzOk-from_below, length-swz_l, get_or-swz_l_below, Each1-weaker, Each1-get_or, Each1-from_get_or, length-zip2, get_or-zip2, get_or-replicate, length-replicate, get_or_narrower, bitmask_splat, below_from_Fits}
 use Rattle.hash_family.specs.Hash.{position}
 use Rattle.hash_family.specs.declared.pairing.HashPair.{HashPair}
 use Rattle.group_search.specs.Lanes.{lanes, are_apart}

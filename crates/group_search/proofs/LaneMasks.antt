@@ -1,17 +1,17 @@
 -- The masks of lists of pairs, lane by lane.
-use Rattle.std.proofs.Common.{ℕ, zero, suc, ◌≡◌, ◌∙◌, ◌+◌, ◌^◌, ◌<◌, ◌≤◌, ◌==◌, Bool, true, false, cond, List, [], ◌∷◌, ◌++◌, map, length, get_or, drop, replicate, ap, sym, refl, arith, subst, eq-eqb, add-one, drop-cons}
+use Rattle.std.proofs.Common.{ℕ, ◌≡◌, ◌∙◌, ◌+◌, ◌^◌, ◌<◌, ◌≤◌, Bool, true, false, List, ◌∷◌, length, get_or, drop, replicate, ap, sym, refl, arith, eq-eqb, add-one, drop-cons}
 use Rattle.std.specs.Prelude.{bit_and, bit_or}
 use Rattle.std.specs.Int.Bits.{or_zero_l, or_zero_r}
 use Rattle.std.specs.Simd.Lanes.{zip2, mask_l}
-use Rattle.std.proofs.lemmas.Bool.{cases_Bool, false≢true, eqb-true}
-use Rattle.std.proofs.lemmas.List.{get_or-map, length-map, drop_all}
+use Rattle.std.proofs.lemmas.Bool.{false≢true, eqb-true}
+use Rattle.std.proofs.lemmas.List.{drop_all}
 use Rattle.std.proofs.lemmas.Simd.{length-zip2, get_or-zip2, get_or-replicate, length-replicate}
 use Rattle.hash_family.specs.Hash.{position}
 use Rattle.hash_family.specs.declared.pairing.HashPair.{HashPair}
 use Rattle.group_search.specs.Lanes.{lanes, are_apart, mask_of}
 use Rattle.std.specs.Int.{bit_at}
 use Rattle.group_search.proofs.Bits.{mask_assoc, other_bit, kept_by_or, apart, apart_from_bits}
-use Rattle.group_search.proofs.LaneLemmas.{at_lane, count_lanes, as_lanes, zip2_lanes, none_free, no_mask}
+use Rattle.group_search.proofs.LaneLemmas.{at_lane, count_lanes, as_lanes, none_free, no_mask}
 
 -- the masks so far, with those of the pairs that are left, are those of all pairs
 pub record AreSoFar (masks : List ℕ) (first : ℕ) (left pairs : List HashPair) : Type 0 where

@@ -46,3 +46,7 @@ entry_in one = one.entry
 -- the entries of one group, in their order
 unfoldable pub gathered : (groups : List ℕ) → (group : ℕ) → List Placed → List Entry
 gathered groups group all = map entry_in (filter (is_group groups group) all)
+
+-- each group of the block has its entries
+abbrev pub AreGathered : (groups : List ℕ) → List Placed → List (List Entry) → Type 0
+AreGathered groups all found = (group : ℕ) → group < 64 → slice_index_or found group [] ≡ gathered groups group all

@@ -5,6 +5,7 @@ ghost use Rattle.group_search.specs.Records.{AreHandled};
 ghost use Rattle.setsep_build.specs.Refused.{Refuses};
 ghost use Rattle.setsep_build.specs.Workers.{most_workers};
 
+use crate::groups::Groups;
 use crate::imaging::image_of;
 use crate::refused::BuildRefused;
 use crate::spreading::spread;
@@ -37,7 +38,7 @@ pub fn build<R: Threads>(
     let blocks = spread(alloc, shape, flows)?;
     let bits = shape.value_bits();
     let mut images = Vec::with_capacity(alloc, blocks.len())?;
-    let mut room = Vec::new(alloc);
+    let mut room = Groups::new(alloc)?;
     'images: for block in 0..shape.blocks() {
         let placed = blocks[block as usize].as_slice();
         images.push(image_of(alloc, bits, block, placed, &mut room)?)?;

@@ -6,11 +6,12 @@ ghost use Rattle.setsep_build.specs.Block.{IsImageOf, RefusesBlock};
 
 use crate::block::Placed;
 use crate::gathering::groups_of;
+use crate::groups::Groups;
 use crate::records::records_of;
 use crate::refused::BuildRefused;
 use crate::sizing::bucket_sizes;
 use block_layout::choose;
-use group_search::{BlockImage, Entry, MOST_ENTRIES, MOST_ROWS};
+use group_search::{BlockImage, MOST_ENTRIES, MOST_ROWS};
 use std::alloc::Global;
 
 /// The image of a block with these flows.
@@ -19,7 +20,7 @@ pub fn image_of(
     bits: u8,
     block: u16,
     placed: &[Placed],
-    room: &mut Vec<Entry>,
+    room: &mut Groups,
 ) -> Result<BlockImage, BuildRefused>
     requires enough_bits { 1 ≤ bits }
     requires few_bits { bits ≤ most_value_bits }

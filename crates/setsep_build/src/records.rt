@@ -1,4 +1,4 @@
-ghost use Rattle.std.specs.Prelude.{◌≡◌, ◌<◌, ◌≤◌, ◌+◌, ◌++◌, ◌^◌, OnOk, IfOk, length, option_to_list};
+ghost use Rattle.std.specs.Prelude.{ℕ, ◌≡◌, ◌<◌, ◌≤◌, ◌+◌, ◌++◌, ◌^◌, OnOk, IfOk, All, length, option_to_list};
 ghost use Rattle.flow_types.specs.Map.{HaveDistinctKeys};
 ghost use Rattle.setsep_build.specs.Placing.{placed_key};
 ghost use Rattle.group_search.specs.Rows.{entry_key};
@@ -9,7 +9,7 @@ ghost use Rattle.block_layout.specs.Limits.{most_keys, group_count};
 ghost use Rattle.setsep_build.specs.Block.{needed_below, records_below};
 
 use crate::block::Placed;
-use crate::gathering::gather;
+use crate::groups::Groups;
 use block_layout::{BUCKETS, GROUPS};
 use group_search::{Entry, GroupRecord, canon};
 use std::alloc::{AllocError, Global};
@@ -47,18 +47,19 @@ impl Records {
 
 /// The records of all groups of a block with these flows.
 ///
-/// The room is for the entries of one group at a time.
+/// The room is for the entries of each group.
 pub fn records_of(
     alloc: Global,
     bits: u8,
     placed: &[Placed],
     groups: &[u8; BUCKETS],
-    room: &mut Vec<Entry>,
+    room: &mut Groups,
 ) -> Result<Records, AllocError>
     requires enough_bits { 1 ≤ bits }
     requires few_bits { bits ≤ most_value_bits }
     requires apart { HaveDistinctKeys placed_key placed.now }
     requires few { length placed.now ≤ most_keys }
+    requires known { All (λ (group : ℕ). group < group_count) groups.now }
     ensures kept { IfOk result (λ records. records.kept.items ≡ records_below group_count bits groups.now placed.now) }
     ensures needed { IfOk result (λ records. records.needed ≡ needed_below group_count bits groups.now placed.now) }
 {
@@ -66,9 +67,9 @@ pub fn records_of(
         kept: Vec::with_capacity(alloc, GROUPS as usize)?,
         needed: 0,
     };
+    room.gather(placed, groups)?;
     'groups: for group in 0..GROUPS {
-        gather(room, placed, groups, group)?;
-        records.add(bits, room.as_slice())?;
+        records.add(bits, room.entries(group))?;
     }
     Ok(records)
 }

@@ -1,8 +1,6 @@
-use Rattle.std.proofs.Common.{◌≡◌, ◌<◌, ℕ, arith}
-use Rattle.std.specs.Simd.Lanes.{mask_l}
-use Rattle.group_search.specs.Lanes.{lanes}
+use Rattle.std.proofs.Common.{arith}
 use Rattle.group_search.proofs.LaneMasks.{free_of_both}
-use Rattle.group_search.proofs.Turns.{is_free, none_free_here, some_free_here, lane_below}
+use Rattle.group_search.proofs.Turns.{none_free_here, some_free_here, lane_below}
 use Rattle.group_search.proofs.turn.first_in_turn.Goals as goal
 
 pub returns-then-free-eq0 : goal.returns-then-free-eq0

@@ -1,5 +1,3 @@
-use Rattle.std.proofs.Common.{ℕ, ◌≡◌, ◌∙◌, ◌+◌, ◌*◌, ◌/◌, ◌%◌, ◌^◌, List, map, ap}
-use Rattle.group_search.specs.Lanes.{lanes}
 use Rattle.group_search.proofs.LaneLemmas.{small_positions, masks_at}
 use Rattle.group_search.proofs.line.Line.places.Goals as goal
 
