@@ -11,3 +11,5 @@ pub mod Records
 pub mod Image
 pub mod Build
 pub mod Routing
+pub mod RowWords
+pub mod Published
