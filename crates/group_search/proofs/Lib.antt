@@ -10,6 +10,7 @@ pub mod Rising
 pub mod Values
 pub mod Chosen
 pub mod WordLemmas
+pub mod RowWordLemmas
 pub mod EachNode
 pub mod AnyOrder
 mod Numbered

@@ -26,13 +26,13 @@ second_back p q hp hq =
     let above : pair_word p q / 2 ^ 24 ≡ q.index + q.array * 2 ^ 16 = omega (arith, hp.index, hp.array) in
     rw above (same_pair _ _ (omega (arith, hq.index, hq.array)) (omega (arith, hq.index, hq.array)))
 
-word_below : (p q : Pair) → IsPair p → IsPair q → pair_word p q < 2 ^ 48
+pub word_below : (p q : Pair) → IsPair p → IsPair q → pair_word p q < 2 ^ 48
 word_below p q hp hq = omega (arith, hp.index, hp.array, hq.index, hq.array)
 
 zero_is_pair : IsPair zero_pair
 zero_is_pair = record { index = omega arith; array = omega arith }
 
-pair_at_sized : (pairs : List Pair) (i : ℕ) → All IsPair pairs → IsPair (pair_at pairs i)
+pub pair_at_sized : (pairs : List Pair) (i : ℕ) → All IsPair pairs → IsPair (pair_at pairs i)
 pair_at_sized [] i h = zero_is_pair
 pair_at_sized (p ∷ pairs) zero h = All-head IsPair p pairs h
 pair_at_sized (p ∷ pairs) (suc i) h = pair_at_sized pairs i (All-tail IsPair p pairs h)

@@ -13,3 +13,5 @@ pub mod Records
 pub mod Image
 pub mod Build
 pub mod Routing
+pub mod RowWords
+pub mod Published

@@ -53,7 +53,7 @@ impl GroupRecord {
 
 /// The number whose bit b is that of the b-th pair's array at the position that the pair gives a key with these
 /// hashes.
-fn value_at(pairs: &[Pair], hashes: HashPair) -> u8
+pub(crate) fn value_at(pairs: &[Pair], hashes: HashPair) -> u8
     requires { length pairs.now ≤ most_value_bits }
     ensures { result ≡ value_of hashes pairs.now }
 {

@@ -93,7 +93,7 @@ fn served_words(pairs: &[Pair; MOST_BITS]) -> [u64; 2]
 }
 
 /// The pairs in two words.
-fn pairs_of(words: [u64; 2]) -> [Pair; MOST_BITS]
+pub(crate) fn pairs_of(words: [u64; 2]) -> [Pair; MOST_BITS]
     ensures { result ≡ layout.pairs_in (slice_index words 0) (slice_index words 1) }
 {
     let [first, second] = words;

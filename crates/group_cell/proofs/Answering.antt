@@ -1,0 +1,153 @@
+-- The node that a look answers is the one that the record gives.
+use Rattle.std.proofs.Common.{◌≡◌, ℕ, zero, suc, ◌+◌, ◌*◌, ◌/◌, ◌%◌, ◌^◌, ◌<◌, ◌≤◌, List, [], ◌∷◌, ◌++◌, length, get_or, set, refl, sym, ap, ◌∙◌, subst, arith, if◌then◌else◌, eqb, eq-eqb, Bool, Option, Some, None, get_or-set_other, get_or-set_same}
+use mathlib.Core.Logic.{dite}
+use native.Mathlib.Decide.{ℕ_discrete}
+use Rattle.atomic_table.specs.Table.{Me}
+use Rattle.flow_types.specs.declared.key.FlowKey.{FlowKey}
+use Rattle.flow_types.specs.Size.{Size, value_bits}
+use Rattle.group_search.specs.declared.published.Publication.{Publication}
+use Rattle.group_search.specs.declared.record.GroupRecord.{GroupRecord}
+use Rattle.group_search.specs.declared.record.GroupRecord.TheVariants.{Served, Fallback}
+use Rattle.group_search.specs.Decoding.{decode}
+use Rattle.group_search.specs.Home.{Home}
+use Rattle.group_search.specs.Published.{count, record_at}
+use Rattle.group_search.specs.declared.entry.Pair.{Pair}
+use Rattle.group_search.specs.Words.{AreServedWords, PacksTo, packed_of, pair_at, words_of}
+use Rattle.group_search.proofs.WordLemmas.{pair_at_sized, word_below}
+use Rattle.group_cell.specs.declared.view.Load.{Load}
+use Rattle.group_cell.specs.declared.view.Sight.{Sight}
+use Rattle.group_cell.specs.declared.view.ReaderView.{ReaderView}
+use Rattle.group_cell.specs.declared.view.View.{View}
+use Rattle.group_cell.specs.Opening.{Opened}
+use Rattle.group_cell.specs.Layout.{address, data_word, datum}
+use Rattle.group_cell.specs.Rule.{HasLoad, HasLoaded, Holds, bits_of, latest}
+use Rattle.group_cell.specs.Plays.{reader_view, IsReader, load, begun_look, ended_in, looked}
+use Rattle.group_cell.specs.Seating.{Place, GoesOn, HasBegun, IsLooking, IsFound, Reads, StandsFound, RowsGive, forgotten, last_look, loads_of, look_in, the_look}
+use Rattle.group_cell.proofs.Finding.{gives, stands_found}
+
+two_items : (words : List ℕ) (content : GroupRecord) → length words ≡ 2 → ((j : ℕ) → j < 2 → get_or words j 0 ≡ get_or (words_of content) j 0) → words ≡ words_of content
+two_items [] content two each = absurd (omega arith)
+two_items (a ∷ []) content two each = absurd (omega arith)
+two_items (a ∷ b ∷ []) (Served pairs) two each = λ i. each 0 (omega arith) i ∷ each 1 (omega arith) i ∷ []
+two_items (a ∷ b ∷ []) (Fallback rows) two each = λ i. each 0 (omega arith) i ∷ each 1 (omega arith) i ∷ []
+two_items (a ∷ b ∷ c ∷ words) content two each = absurd (omega arith)
+
+-- the first data word of a record with rows says so
+rows_given : (bits : ℕ) (ws : List ℕ) (at : Home) (content : GroupRecord) (words : List ℕ) (key : FlowKey) (found : Option ℕ) → Holds bits ws at content → words ≡ words_of content
+    → (2 ^ 48 ≤ get_or words 0 0 → StandsFound ws at 64 key found) → RowsGive content key found
+rows_given bits ws at (Served pairs) words key found h same stands = tt
+rows_given bits ws at (Fallback rows) words key found h same stands =
+    gives bits ws at (Fallback rows) key found h (stands (let e : get_or words 0 0 ≡ 2 ^ 48 + length rows = ap (λ (l : List ℕ). get_or l 0 0) same in omega arith))
+
+-- what is decoded of a record's words is what the record says
+pub own_answer : (bits nodes : ℕ) (ws : List ℕ) (at : Home) (content : GroupRecord) (words : List ℕ) (key : FlowKey) (found result : Option ℕ) → Holds bits ws at content → length words ≡ 2
+    → ((j : ℕ) → j < 2 → get_or words j 0 ≡ datum ws at j) → (2 ^ 48 ≤ get_or words 0 0 → StandsFound ws at 64 key found)
+    → ((c : GroupRecord) → PacksTo bits (packed_of c) words → RowsGive c key found → result ≡ decode c nodes key) → result ≡ decode content nodes key
+own_answer bits nodes ws at content words key found result h two each stands decoded =
+    let same = two_items words content two (λ j less. each j less ∙ h.data_words j less) in
+    decoded content (subst (PacksTo bits (packed_of content)) (sym same) h.packs) (rows_given bits ws at content words key found h same stands)
+
+-- and what is decoded of loaded words is what the record says that they are of
+pub loaded_answer : (bits nodes : ℕ) (loads : List Load) (at : Home) (content : GroupRecord) (words : List ℕ) (key : FlowKey) (found result : Option ℕ) → HasLoaded bits loads at content → length words ≡ 2
+    → ((j : ℕ) → j < 2 → HasLoad loads (load (data_word at j) (get_or words j 0))) → (2 ^ 48 ≤ get_or words 0 0 → IsFound loads at 64 key found)
+    → ((c : GroupRecord) → PacksTo bits (packed_of c) words → RowsGive c key found → result ≡ decode c nodes key) → result ≡ decode content nodes key
+loaded_answer bits nodes loads at content words key found result h two each found_is decoded =
+    own_answer bits nodes h.words at content words key found result h.holds two (λ j less. (h.fresh _ (each j less)).data_words j less refl)
+    (λ many. stands_found h.words loads at key found h.fresh (found_is many)) decoded
+
+-- one more data word is loaded
+pub one_more_word : (loads loads' : List Load) (at : Home) (number found : ℕ) (words : List ℕ) → number < length words → ((x : Load) → HasLoad loads x → HasLoad loads' x) → HasLoad loads' (load (data_word at number) found)
+    → ((j : ℕ) → j < number → HasLoad loads (load (data_word at j) (get_or words j 0))) → (j : ℕ) → j < number + 1 → HasLoad loads' (load (data_word at j) (get_or (set words number found) j 0))
+one_more_word loads loads' at number found words room kept it before j less = dite (ℕ_discrete j number)
+    (λ e. let value : get_or (set words number found) j 0 ≡ found = ap (λ (k : ℕ). get_or (set words number found) k 0) e ∙ get_or-set_same words number found 0 room in
+    subst (HasLoad loads') (λ l. load (data_word at (sym e l)) (sym value l)) it)
+    (λ other. let value : get_or (set words number found) j 0 ≡ get_or words j 0 = get_or-set_other words number j found 0 other in
+    subst (HasLoad loads') (λ l. load (data_word at j) (sym value l)) (kept _ (before j (omega arith))))
+
+-- the same of words that the writer loads
+pub one_more_own : (ws : List ℕ) (at : Home) (number found : ℕ) (words : List ℕ) → number < length words → found ≡ datum ws at number → ((j : ℕ) → j < number → get_or words j 0 ≡ datum ws at j)
+    → (j : ℕ) → j < number + 1 → get_or (set words number found) j 0 ≡ datum ws at j
+one_more_own ws at number found words room is before j less = dite (ℕ_discrete j number)
+    (λ e. ap (λ (k : ℕ). get_or (set words number found) k 0) e ∙ (get_or-set_same words number found 0 room ∙ (is ∙ ap (λ (k : ℕ). datum ws at k) (sym e))))
+    (λ other. get_or-set_other words number j found 0 other ∙ before j (omega arith))
+
+-- a look has begun at an even number
+module _ (s t : Place) (at : Home) (first : ℕ) (h : HasBegun s t at first) where
+  pub last_begun : last_look t ≡ Some (begun_look at first)
+  last_begun = ap (λ (m : Me ℕ View). (reader_view m.0).last) h.me
+
+  pub look_begun : the_look t ≡ begun_look at first
+  look_begun = ap look_in last_begun
+
+  open_second : first % 2 ≡ 0 → (begun_look at first).second ≡ None
+  open_second even = ap (λ (b : Bool). if b then None else Some first) (eq-eqb (first % 2) 0 even)
+
+  pub is_looking : first % 2 ≡ 0 → IsLooking t
+  is_looking even = record {
+    reads = subst (λ (m : Me ℕ View). IsReader m.0) (sym h.me) refl;
+    last = last_begun ∙ ap Some (sym look_begun);
+    goes_on = ap (λ (l : Sight). l.second) look_begun ∙ open_second even;
+  }
+
+-- a look has ended with these two numbers
+module _ (s0 s1 s3 t : Place) (at : Home) (first second : ℕ) (h : HasBegun s0 s1 at first) (g : GoesOn s1 s3) (l : IsLooking s3) (e : Reads s3 t (looked second (reader_view s3.me.0))) where
+  at_is : (the_look s3).at ≡ address at
+  at_is = g.at ∙ ap (λ (q : Sight). q.at) (look_begun s0 s1 at first h)
+
+  pub first_is : (the_look s3).first ≡ first
+  first_is = g.first ∙ ap (λ (q : Sight). q.first) (look_begun s0 s1 at first h)
+
+  pub has_looked : last_look t ≡ Some (record { at = address at; first = first; second = Some second; loads = loads_of s3 })
+  has_looked = ap (λ (m : Me ℕ View). (reader_view m.0).last) e.me ∙ (ap (ended_in second) l.last ∙ (λ i. Some record { at = at_is i; first = first_is i; second = Some second; loads = loads_of s3 }))
+
+  pub view_then : forgotten s3 ≡ record (reader_view s0.me.0) { seen = (reader_view s1.me.0).seen; looks = (reader_view s0.me.0).looks + 1; last = None }
+  view_then = g.view ∙ ap (λ (m : Me ℕ View). record (reader_view m.0) { last = None }) h.me
+
+  pub seen_then : (reader_view s3.me.0).seen ≡ (reader_view s1.me.0).seen
+  seen_then = ap (λ (r : ReaderView). r.seen) view_then
+
+  pub opening_then : (reader_view s3.me.0).opening ≡ (reader_view s0.me.0).opening
+  opening_then = ap (λ (r : ReaderView). r.opening) view_then
+
+  pub seen_now : (reader_view t.me.0).seen ≡ (reader_view s3.me.0).seen
+  seen_now = ap (λ (m : Me ℕ View). (reader_view m.0).seen) e.me
+
+-- the node of the record of this version, as a clause says it
+pub node_is : (r opening : Opened) (size : Size) (was now : List Publication) (loads : List Load) (at : Home) (version : ℕ) (words : List ℕ) (key : FlowKey) (found result : Option ℕ)
+    → r ≡ opening → opening.size ≡ size → was ≡ now → version ≡ count now at → HasLoaded (bits_of r) loads at (latest r was at) → length words ≡ 2
+    → ((j : ℕ) → j < 2 → HasLoad loads (load (data_word at j) (get_or words j 0))) → (2 ^ 48 ≤ get_or words 0 0 → IsFound loads at 64 key found)
+    → ((c : GroupRecord) → PacksTo (value_bits size.nodes) (packed_of c) words → RowsGive c key found → result ≡ decode c size.nodes key)
+    → result ≡ decode (record_at opening.images now at version) opening.size.nodes key
+node_is r opening size was now loads at version words key found result one_opening one_size one_list counted whole two each found_is decoded =
+    let at_opening = subst (λ (o : Opened). HasLoaded (bits_of o) loads at (latest o was at)) one_opening whole in
+    let at_size = subst (λ (z : Size). HasLoaded (value_bits z.nodes) loads at (latest opening was at)) one_size at_opening in
+    loaded_answer (value_bits size.nodes) size.nodes loads at (latest opening was at) words key found result at_size two each found_is decoded
+    ∙ ((λ i. decode (record_at opening.images (one_list i) at (count (one_list i) at)) size.nodes key)
+    ∙ (λ i. decode (record_at opening.images now at (sym counted i)) (sym one_size i).nodes key))
+
+-- the first data word tells whether the record has rows
+pub served_below : (bits : ℕ) (pairs : List Pair) (words : List ℕ) → AreServedWords bits pairs words → get_or words 0 0 < 2 ^ 48
+served_below bits pairs words h = subst (λ (n : ℕ). n < 2 ^ 48) (sym (ap (λ (ws : List ℕ). get_or ws 0 0) h.spelled))
+    (word_below (pair_at pairs 0) (pair_at pairs 1) (pair_at_sized pairs 0 h.sized) (pair_at_sized pairs 1 h.sized))
+
+pub found_is : (bits nodes : ℕ) (words : List ℕ) (key : FlowKey) (found : Option ℕ) → 2 ^ 48 ≤ get_or words 0 0 → (content : GroupRecord) → PacksTo bits (packed_of content) words → RowsGive content key found → found ≡ decode content nodes key
+unfolding decode
+found_is bits nodes words key found many (Served pairs) h give = let less = served_below bits pairs words h in absurd (omega arith)
+found_is bits nodes words key found many (Fallback rows) h give = sym give
+
+pub served_is : (bits nodes : ℕ) (words : List ℕ) (key : FlowKey) (found result : Option ℕ) → get_or words 0 0 < 2 ^ 48 → ((pairs : List Pair) → AreServedWords bits pairs words → result ≡ decode (Served pairs) nodes key)
+    → (content : GroupRecord) → PacksTo bits (packed_of content) words → RowsGive content key found → result ≡ decode content nodes key
+served_is bits nodes words key found result few served (Served pairs) h give = served pairs h
+served_is bits nodes words key found result few served (Fallback rows) h give = let e : get_or words 0 0 ≡ 2 ^ 48 + length rows = ap (λ (ws : List ℕ). get_or ws 0 0) h.spelled in absurd (omega arith)
+
+-- the same of words that the writer loaded
+pub own_node : (r opening : Opened) (size : Size) (ps : List Publication) (ws : List ℕ) (at : Home) (version : ℕ) (words : List ℕ) (key : FlowKey) (found result : Option ℕ)
+    → r ≡ opening → opening.size ≡ size → version ≡ count ps at → Holds (bits_of r) ws at (latest r ps at) → length words ≡ 2
+    → ((j : ℕ) → j < 2 → get_or words j 0 ≡ datum ws at j) → StandsFound ws at 64 key found
+    → ((c : GroupRecord) → PacksTo (value_bits size.nodes) (packed_of c) words → RowsGive c key found → result ≡ decode c size.nodes key)
+    → result ≡ decode (record_at opening.images ps at version) opening.size.nodes key
+own_node r opening size ps ws at version words key found result one_opening one_size counted holds two each stands decoded =
+    let at_opening = subst (λ (o : Opened). Holds (bits_of o) ws at (latest o ps at)) one_opening holds in
+    let at_size = subst (λ (z : Size). Holds (value_bits z.nodes) ws at (latest opening ps at)) one_size at_opening in
+    own_answer (value_bits size.nodes) size.nodes ws at (latest opening ps at) words key found result at_size two each (λ _. stands) decoded
+    ∙ (λ i. decode (record_at opening.images ps at (sym counted i)) (sym one_size i).nodes key)

@@ -1,0 +1,15 @@
+pub mod Versions
+pub mod Groups
+pub mod Writing
+pub mod Reading
+pub mod Keeps
+pub mod Meeting
+pub mod Placing
+pub mod Finding
+pub mod Looking
+pub mod Rewriting
+pub mod Answering
+pub mod Room
+pub mod Publishing
+pub mod Laid
+pub mod Opening

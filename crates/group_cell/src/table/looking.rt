@@ -1,0 +1,163 @@
+//! The readers' steps.
+ghost use Rattle.std.specs.Prelude.{◌≡◌, ℕ, ◌+◌, ◌^◌, ◌<◌, ◌≤◌, ◌∷◌, [], ◌++◌, IfErr, IfOk, length, slice_index};
+ghost use Rattle.group_search.specs.Home.{Home};
+ghost use Rattle.group_search.specs.Published.{Extends};
+ghost use Rattle.group_cell.specs.Layout.{home};
+ghost use Rattle.group_cell.specs.Layout as layout;
+ghost use Rattle.group_cell.specs.Rule.{bits_of, latest, HasLoad, HasLoaded, IsEven, IsIn};
+ghost use Rattle.group_cell.specs.Plays.{reader_view, IsReader, looked};
+ghost use Rattle.group_cell.specs.Plays as plays;
+ghost use Rattle.group_cell.specs.Seating.{GoesOn, HasBegun, IsAt, IsFound, IsLooking, Reads, loads_of, the_look};
+ghost use Rattle.group_cell.specs.Seats.{Answers, Changes, IsReaderOf, looks, opened, seen, the_group};
+
+use crate::layout::{DATA_WORDS, PLACES, data_word, high_word, low_word, sequence_word, tag};
+use crate::plays::{EndLook, Load, Place, Shelf, StartLook};
+use crate::table::decoding::{decoded, has_rows, node_in};
+use crate::table::{CellTable, Changing, Look, ReaderSeat};
+use crate::view::Address;
+use flow_types::FlowKey;
+
+// Loads the group's sequence word.
+fn begin(shelf: &Shelf, seat: &mut Place, at: Address) -> u64
+    requires own { seat.old.table_id ≡ shelf.now.table_id }
+    requires inside { IsAt shelf.now.table_id.words shelf.now.key.value (home at) }
+    requires reads { IsReader seat.old.me.0 }
+    ensures { HasBegun seat.old seat.new (home at) result }
+{
+    shelf.load::<StartLook>(seat, sequence_word(at))
+}
+
+// Loads a word in a look.
+fn load(shelf: &Shelf, seat: &mut Place, word: usize) -> u64
+    requires own { seat.old.table_id ≡ shelf.now.table_id }
+    requires inside { word < shelf.now.table_id.words }
+    requires looking { IsLooking seat.old }
+    ensures looking { IsLooking seat.new }
+    ensures loads { loads_of seat.new ≡ loads_of seat.old ++ plays.load word result ∷ [] }
+    ensures goes_on { GoesOn seat.old seat.new }
+{
+    shelf.load::<Load>(seat, word)
+}
+
+// Loads the group's data words.
+fn gather(shelf: &Shelf, seat: &mut Place, at: Address) -> [u64; DATA_WORDS]
+    requires own { seat.old.table_id ≡ shelf.now.table_id }
+    requires inside { IsAt shelf.now.table_id.words shelf.now.key.value (home at) }
+    requires looking { IsLooking seat.old }
+    ensures looking { IsLooking seat.new }
+    ensures goes_on { GoesOn seat.old seat.new }
+    ensures width { length result ≡ 2 }
+    ensures loads { (j : ℕ) → j < 2 → HasLoad (loads_of seat.new) (plays.load (layout.data_word (home at) j) (slice_index result j)) }
+{
+    let mut words = [0; DATA_WORDS];
+    'loads: for number in 0..DATA_WORDS {
+        words[number] = load(shelf, seat, data_word(at, number));
+    }
+    words
+}
+
+// Loads a place, and answers the node in it if it has the key.
+fn probe(
+    shelf: &Shelf,
+    seat: &mut Place,
+    at: Address,
+    place: usize,
+    key: FlowKey,
+    found: Option<u8>,
+) -> Option<u8>
+    requires own { seat.old.table_id ≡ shelf.now.table_id }
+    requires inside { IsAt shelf.now.table_id.words shelf.now.key.value (home at) }
+    requires place { place < 64 }
+    requires looking { IsLooking seat.old }
+    requires found { IsFound (loads_of seat.old) (home at) place key found }
+    ensures looking { IsLooking seat.new }
+    ensures goes_on { GoesOn seat.old seat.new }
+    ensures found { IsFound (loads_of seat.new) (home at) (place + 1) key result }
+{
+    let second = load(shelf, seat, high_word(at.block, place));
+    if tag(second) != u64::from(at.group) + 1 {
+        return found;
+    }
+    let first = load(shelf, seat, low_word(at.block, place));
+    match node_in(first, second, key) {
+        Some(node) => Some(node),
+        None => found,
+    }
+}
+
+// Goes over all places of the block, where the first data word is that of a record with rows.
+fn search(shelf: &Shelf, seat: &mut Place, at: Address, datum: u64, key: FlowKey) -> Option<u8>
+    requires own { seat.old.table_id ≡ shelf.now.table_id }
+    requires inside { IsAt shelf.now.table_id.words shelf.now.key.value (home at) }
+    requires looking { IsLooking seat.old }
+    ensures looking { IsLooking seat.new }
+    ensures goes_on { GoesOn seat.old seat.new }
+    ensures found { 2 ^ 48 ≤ datum → IsFound (loads_of seat.new) (home at) 64 key result }
+{
+    if !has_rows(datum) {
+        return None;
+    }
+    let mut found = None;
+    'places: for place in 0..PLACES {
+        found = probe(shelf, seat, at, place, key, found);
+    }
+    found
+}
+
+// Loads the group's sequence word once more.
+fn end(shelf: &Shelf, seat: &mut Place, at: Address) -> u64
+    requires own { seat.old.table_id ≡ shelf.now.table_id }
+    requires inside { IsAt shelf.now.table_id.words shelf.now.key.value (home at) }
+    requires looking { IsLooking seat.old }
+    requires group { (the_look seat.old).at ≡ at }
+    ensures view { Reads seat.old seat.new (looked result (reader_view seat.old.me.0)) }
+    ensures whole { IsEven (the_look seat.old).first → result ≡ (the_look seat.old).first
+        → let r = reader_view seat.old.me.0 in HasLoaded (bits_of r.opening) (loads_of seat.old) (home at) (latest r.opening r.seen (home at)) }
+{
+    shelf.load::<EndLook>(seat, sequence_word(at))
+}
+
+impl CellTable {
+    /// Looks up a key in a group: the node that one whole published record of the group gives it, and that record's
+    /// version; or `Changing`, where the group was being rewritten.
+    ///
+    /// The key's home is the group. The block is one of the table's, the group is below 64, and the seat is this
+    /// table's. A look loads the sequence word twice and the data words once, and the places of a record with rows.
+    /// It waits for nobody, and nothing says that it ever succeeds beside a writer that never rests.
+    pub fn look(
+        &self,
+        reader: &mut ReaderSeat,
+        block: u16,
+        group: u8,
+        key: FlowKey,
+    ) -> Result<Look, Changing>
+        requires reader { IsReaderOf self.now reader.old }
+        requires inside { IsIn (opened self.now) (the_group block group) }
+
+        ensures reader { IsReaderOf self.now reader.new }
+        ensures later { Extends (seen reader.old) (seen reader.new) }
+        ensures looks { looks reader.new ≡ looks reader.old + 1 }
+        ensures answer { IfOk result (λ l. Answers (opened self.now) reader.new (the_group block group) key l.version l.node) }
+        ensures changing { IfErr result (λ c. Changes reader.new (the_group block group) c.first c.second) }
+    {
+        let at = Address { block, group };
+        let shelf = &self.table.shared;
+        let first = begin(shelf, &mut reader.seat, at);
+        if first % 2 == 1 {
+            return Err(Changing {
+                first,
+                second: first,
+            });
+        }
+        let words = gather(shelf, &mut reader.seat, at);
+        let found = search(shelf, &mut reader.seat, at, words[0], key);
+        let second = end(shelf, &mut reader.seat, at);
+        if second != first {
+            return Err(Changing { first, second });
+        }
+        Ok(Look {
+            version: (first / 2) as u32,
+            node: decoded(self.shape, words, found, key),
+        })
+    }
+}

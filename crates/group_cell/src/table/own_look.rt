@@ -1,0 +1,127 @@
+//! The writer's look at its own table.
+ghost use Rattle.std.specs.Prelude.{◌≡◌, ℕ, ◌+◌, ◌<◌, Option, length, slice_index};
+ghost use Rattle.group_search.specs.Published.{count};
+ghost use Rattle.group_cell.specs.Layout.{home, high, datum, tag};
+ghost use Rattle.group_cell.specs.Rule.{IsIn, Stands};
+ghost use Rattle.group_cell.specs.Plays.{writer_view, IsWriter};
+ghost use Rattle.group_cell.specs.Seating.{AreOwners, IsAt, IsSamePlace, StandsFound, words_of_seat};
+ghost use Rattle.group_cell.specs.Seats.{IsWriterOf, node_at, opened, published, the_group};
+
+use crate::layout::{DATA_WORDS, PLACES, data_word, high_word, low_word, sequence_word};
+use crate::plays::{Ask, Place, Shelf};
+use crate::table::decoding::{decoded, node_in};
+use crate::table::{CellTable, Look, WriterSeat};
+use crate::view::Address;
+use flow_types::FlowKey;
+
+// Loads a word of the writer's.
+fn ask(shelf: &Shelf, seat: &mut Place, word: usize) -> u64
+    requires own { seat.old.table_id ≡ shelf.now.table_id }
+    requires inside { word < shelf.now.table_id.words }
+    requires writes { IsWriter seat.old.me.0 }
+    ensures found { result ≡ slice_index (words_of_seat seat.old) word }
+    ensures stands { Stands (writer_view seat.old.me.0) }
+    ensures same { IsSamePlace seat.old seat.new }
+    ensures kept { seat.new.me ≡ seat.old.me }
+{
+    shelf.load::<Ask>(seat, word)
+}
+
+// Loads the group's data words.
+fn ask_data(shelf: &Shelf, seat: &mut Place, at: Address) -> [u64; DATA_WORDS]
+    requires own { seat.old.table_id ≡ shelf.now.table_id }
+    requires inside { IsAt shelf.now.table_id.words shelf.now.key.value (home at) }
+    requires writes { IsWriter seat.old.me.0 }
+    ensures width { length result ≡ 2 }
+    ensures found { (j : ℕ) → j < 2 → slice_index result j ≡ datum (words_of_seat seat.old) (home at) j }
+    ensures same { IsSamePlace seat.old seat.new }
+    ensures kept { seat.new.me ≡ seat.old.me }
+{
+    let mut words = [0; DATA_WORDS];
+    'loads: for number in 0..DATA_WORDS {
+        words[number] = ask(shelf, seat, data_word(at, number));
+    }
+    words
+}
+
+// Loads a place if it is the group's, and answers the node in it if it has the key.
+fn probe(
+    shelf: &Shelf,
+    seat: &mut Place,
+    owner: u8,
+    at: Address,
+    place: usize,
+    key: FlowKey,
+    found: Option<u8>,
+) -> Option<u8>
+    requires own { seat.old.table_id ≡ shelf.now.table_id }
+    requires inside { IsAt shelf.now.table_id.words shelf.now.key.value (home at) }
+    requires place { place < 64 }
+    requires writes { IsWriter seat.old.me.0 }
+    requires owner { owner ≡ tag (high (words_of_seat seat.old) at.block place) }
+    requires found { StandsFound (words_of_seat seat.old) (home at) place key found }
+    ensures found { StandsFound (words_of_seat seat.old) (home at) (place + 1) key result }
+    ensures same { IsSamePlace seat.old seat.new }
+    ensures kept { seat.new.me ≡ seat.old.me }
+{
+    if owner != at.group + 1 {
+        return found;
+    }
+    let first = ask(shelf, seat, low_word(at.block, place));
+    let second = ask(shelf, seat, high_word(at.block, place));
+    match node_in(first, second, key) {
+        Some(node) => Some(node),
+        None => found,
+    }
+}
+
+// Goes over the group's places.
+fn search(
+    shelf: &Shelf,
+    seat: &mut Place,
+    owners: &[u8; PLACES],
+    at: Address,
+    key: FlowKey,
+) -> Option<u8>
+    requires own { seat.old.table_id ≡ shelf.now.table_id }
+    requires inside { IsAt shelf.now.table_id.words shelf.now.key.value (home at) }
+    requires writes { IsWriter seat.old.me.0 }
+    requires owners { AreOwners owners.now (words_of_seat seat.old) at.block }
+    ensures found { StandsFound (words_of_seat seat.old) (home at) 64 key result }
+    ensures same { IsSamePlace seat.old seat.new }
+    ensures kept { seat.new.me ≡ seat.old.me }
+{
+    let mut found = None;
+    'places: for place in 0..PLACES {
+        found = probe(shelf, seat, owners[place], at, place, key, found);
+    }
+    found
+}
+
+impl CellTable {
+    /// Looks up a key in a group by the writer's seat: the node that the group's latest record gives it, and that
+    /// record's version. For a key that isn't in the group the node is arbitrary.
+    ///
+    /// The key's home is the group. The block is one of the table's, the group is below 64, and the seat is this
+    /// table's. Nothing changes.
+    pub fn look_own(&self, writer: &mut WriterSeat, block: u16, group: u8, key: FlowKey) -> Look
+        requires writer { IsWriterOf self.now writer.old }
+        requires inside { IsIn (opened self.now) (the_group block group) }
+
+        ensures writer { IsWriterOf self.now writer.new }
+        ensures kept { published writer.new ≡ published writer.old }
+        ensures version { result.version ≡ count (published writer.old) (the_group block group) }
+        ensures node { result.node ≡ node_at (opened self.now) (published writer.old) (the_group block group) result.version key }
+    {
+        let at = Address { block, group };
+        let shelf = &self.table.shared;
+        let sequence = ask(shelf, &mut writer.seat, sequence_word(at));
+        let words = ask_data(shelf, &mut writer.seat, at);
+        let owners = &writer.owners[usize::from(block)];
+        let found = search(shelf, &mut writer.seat, owners, at, key);
+        Look {
+            version: (sequence / 2) as u32,
+            node: decoded(self.shape, words, found, key),
+        }
+    }
+}
