@@ -1,5 +1,5 @@
 -- The rows up to `begin`: the shape of a cluster, and its flows.
-use Rattle.std.specs.Prelude.{◌≡◌, ℕ, ◌+◌, ◌==◌, ◌&&◌, nat_le, Bool, if◌then◌else◌, List, [], ◌∷◌, ◌++◌, length, map, Option, Some, None, Result, Ok, Err, codes}
+use Rattle.std.specs.Prelude.{ℕ, ◌+◌, ◌==◌, ◌&&◌, nat_le, Bool, if◌then◌else◌, List, [], ◌∷◌, ◌++◌, length, map, Option, Some, None, Result, Ok, Err, codes}
 use Rattle.std.specs.List.{list_any}
 use Rattle.flow_types.specs.Size.{Size, fewest_blocks, fewest_nodes, most_blocks, most_nodes}
 use Rattle.flow_types.specs.declared.key.FlowKey.{FlowKey}
@@ -91,6 +91,7 @@ opening_from shape (row ∷ rest) flows number =
     let said = row_after_flows shape.nodes flows row in
     ends_or shape flows number said (opening_from shape rest (with_said flows said) (number + 1))
 
+-- what the rows say, where the first says this of the shape and these come after it
 abbrev pub opening_after : List Row → Result Size Why → Result Opening BadRow
 opening_after rest (Ok shape) = opening_from shape rest [] 2
 opening_after rest (Err reason) = Err (bad_row 1 reason)
@@ -100,8 +101,7 @@ unfoldable pub opening_of : List Row → Result Opening BadRow
 opening_of [] = Err (bad_row 1 why.NoBegin)
 opening_of (row ∷ rest) = opening_after rest (shape_of row)
 
--- the answer is this opening or this bad row, or want of memory
-abbrev pub Answers : Result Opening BadRow → Result Opening RowRefused → Type 0
-Answers said (Ok opening) = said ≡ Ok opening
-Answers said (Err (refused.Bad bad)) = said ≡ Err bad
-Answers said (Err refused.OutOfMemory) = Unit {0}
+-- the bad row that a refusal names; none at want of memory
+abbrev pub named_row : RowRefused → Option BadRow
+named_row (refused.Bad bad) = Some bad
+named_row refused.OutOfMemory = None

@@ -1,10 +1,11 @@
 ghost use Rattle.std.specs.Prelude.{◌≡◌, ◌+◌, ◌-◌, ◌<◌, ◌≤◌, ◌^◌, ◌∷◌, drop, length, IfOk, OnOk};
+ghost use Rattle.out_of_memory.specs.Answer.{Answers};
 ghost use Rattle.flow_types.specs.Input.{most_octets};
 ghost use Rattle.csv_rows.specs.Reading.{IsReading, rows_left};
 ghost use Rattle.csv_rows.specs.Rows.{fields_of, rows};
 ghost use Rattle.flow_reader.specs.FirstBad.{IsOpening};
 ghost use Rattle.flow_reader.specs.Fit.{IsFit};
-ghost use Rattle.flow_reader.specs.Opening.{Answers, bad_row, opening_from, opening_of, row_after_flows};
+ghost use Rattle.flow_reader.specs.Opening.{bad_row, named_row, opening_from, opening_of, row_after_flows};
 ghost use Rattle.flow_reader.specs.Steps.{BeginsAt, SaysShape, TakesIn};
 
 use crate::known::KnownFlows;
@@ -22,7 +23,7 @@ use std::alloc::Global;
 /// has its key. `OutOfMemory` may come at any row.
 pub fn read_opening(alloc: Global, bytes: &[u8]) -> Result<Opening, RowRefused>
     requires { length bytes.now ≤ most_octets }
-    ensures answers { Answers (opening_of (rows bytes.now)) result }
+    ensures answers { Answers (λ opening. opening) named_row (opening_of (rows bytes.now)) result }
 
     // What that makes of an opening and of its rows.
     ensures opening { IfOk result (IsOpening (rows bytes.now)) }
@@ -40,7 +41,7 @@ pub fn read_opening_from(
 ) -> Result<Opening, RowRefused>
     requires reading { IsReading reader.old }
     requires few { length (rows_left reader.old) + 1 < 2 ^ 32 }
-    ensures answers { Answers (opening_of (rows_left reader.old)) result }
+    ensures answers { Answers (λ opening. opening) named_row (opening_of (rows_left reader.old)) result }
     ensures reading { OnOk result (IsReading reader.new) }
     ensures left { IfOk result (λ opening. rows_left reader.new ≡ drop opening.begin_row (rows_left reader.old)) }
 

@@ -2,6 +2,7 @@ pub mod Addresses
 pub mod Decimals
 pub mod Digits
 pub mod Dotted
+pub mod Elements
 pub mod Numerals
 pub mod Octets
 pub mod Reading

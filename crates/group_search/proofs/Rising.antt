@@ -11,9 +11,10 @@ use Rattle.group_search.proofs.Distinct.{AllPairs-permutation}
 use Rattle.group_search.specs.declared.entry.Entry.{Entry}
 use Rattle.group_search.specs.declared.rows.Row.{Row}
 use Rattle.group_search.specs.Rows.{key_number, IsRising, AreRows, row_of, put_row, rows_of, entry_key}
-use Rattle.group_search.specs.declared.limits.TheConstants.{FEWEST_ROWS, MOST_ROWS}
+use Rattle.group_search.specs.Limits.{fewest_rows, most_rows}
 use Rattle.std.proofs.lemmas.List.{take-append-le, take_all, length-map}
 use Rattle.flow_types.specs.Map.{HaveDistinctKeys}
+use Rattle.flow_types.proofs.Elements.{Contains-first, Contains-later, Contains_cases}
 
 -- ---- rising lists from their first row
 
@@ -35,19 +36,6 @@ rising_cons row (next ∷ rows) above h = at where
   at (suc k) d low = rw add-one (rw add-one at (h k d (omega arith)))
 
 -- ---- members
-
-Contains-first : (row : Row) (rows : List Row) → Contains (row ∷ rows) row
-Contains-first row rows = (0, omega arith, refl)
-
-Contains-later : (row r : Row) (rows : List Row) → Contains rows r → Contains (row ∷ rows) r
-Contains-later row r rows h = (suc h.0, omega (arith, h.1), h.2)
-
-Contains_cases-at : (row r : Row) (rows : List Row) (k : ℕ) → k < length (row ∷ rows) → get_or (row ∷ rows) k r ≡ r → (row ≡ r) ⊎ Contains rows r
-Contains_cases-at row r rows zero low same = inl same
-Contains_cases-at row r rows (suc k) low same = inr (k, omega arith, same)
-
-pub Contains_cases : (row r : Row) (rows : List Row) → Contains (row ∷ rows) r → (row ≡ r) ⊎ Contains rows r
-Contains_cases row r rows h = Contains_cases-at row r rows h.0 h.1 h.2
 
 -- a member of the rows after a first one has another key
 pub later_member : (row r : Row) (rows : List Row) → IsRising (row ∷ rows) → Contains rows r → key_number row < key_number r
@@ -178,7 +166,7 @@ pub record IsSortedInto (entries : List Entry) (items rows : List Row) : Type 0 
   pub valid : AreRows rows
   pub same : rows ≡ rows_of entries
 
-pub sorted_into : (entries : List Entry) (items rows : List Row) → HaveDistinctKeys entry_key entries → FEWEST_ROWS ≤ length entries → length entries ≤ MOST_ROWS
+pub sorted_into : (entries : List Entry) (items rows : List Row) → HaveDistinctKeys entry_key entries → fewest_rows ≤ length entries → length entries ≤ most_rows
     → items ≡ map row_of entries → IsPermutation items rows → IsNonDecreasingBy key_number rows → IsSortedInto entries items rows
 sorted_into entries items rows h enough few is p up =
     let permuted : IsPermutation (map row_of entries) rows = subst (λ xs. IsPermutation xs rows) is p in

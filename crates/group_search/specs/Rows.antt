@@ -1,4 +1,4 @@
--- The rows of a group that no indexes serve.
+-- Fallback rows: the keys and nodes of a group that no indexes serve.
 use Rattle.std.specs.Prelude.{ℕ, ◌<◌, ◌≤◌, List, [], ◌∷◌, length, map, if◌then◌else◌, nat_lt, IsPermutation}
 use Rattle.std.specs.List.{AllAdjacentBelow}
 use Rattle.flow_types.specs.declared.key.FlowKey.{FlowKey}

@@ -5,7 +5,7 @@
 //! `specs/Words.antt` how a record is packed. `specs/Home.antt` says which flows a group has, and `specs/Build.antt` what
 //! table the flows of a cluster give. No call takes memory, but a clone of an image.
 //! Proved: each call's exact answer; that a canonical record gives each of its keys its node, whatever the order of
-//! the entries. Only tested: nothing.
+//! the entries. Only tested: that memory suffices for a clone of an image.
 #![tactic(auto)]
 
 mod choosing;

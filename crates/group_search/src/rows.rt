@@ -9,7 +9,7 @@ use arrayvec::ArrayVec;
 use flow_types::FlowKey;
 use std::marker::Model;
 
-/// A key of a group that no indexes serve, with its handler.
+/// A fallback row: a key of a group that no indexes serve, with its handler.
 #[derive(Clone, Copy, Debug, PartialEq, Eq, Hash)]
 pub struct Row {
     /// The key.
@@ -18,7 +18,7 @@ pub struct Row {
     pub node: u8,
 }
 
-/// The rows of a group that no indexes serve: 2 to 64, by strictly rising key.
+/// The fallback rows of a group that no indexes serve: 2 to 64, by strictly rising key.
 #[derive(Clone, Debug, PartialEq, Eq, Drop)]
 pub struct Rows {
     rows: ArrayVec<Row, MOST_ROWS>,

@@ -1,5 +1,5 @@
 -- The rows after `begin`, as the events of a script.
-use Rattle.std.specs.Prelude.{◌≡◌, ℕ, ◌+◌, Bool, false, if◌then◌else◌, List, [], ◌∷◌, ◌++◌, Option, Some, None, is_none, option_to_list, Result, Ok, Err, Vec}
+use Rattle.std.specs.Prelude.{ℕ, ◌+◌, Bool, false, if◌then◌else◌, List, [], ◌∷◌, ◌++◌, Option, Some, None, is_none, option_to_list, Result, Ok, Err, Vec}
 use Rattle.std.specs.Global.{Global}
 use Rattle.flow_types.specs.Size.{Size}
 use Rattle.flow_types.specs.declared.why.BadRow.{BadRow}
@@ -8,8 +8,6 @@ use Rattle.flow_types.specs.declared.why.Why.TheVariants as why
 use Rattle.csv_rows.specs.Rows.{Row}
 use Rattle.flow_reader.specs.Fields.{and_then}
 use Rattle.flow_reader.specs.Opening.{with_fields, bad_row}
-use Rattle.flow_reader.specs.declared.opening.RowRefused.{RowRefused}
-use Rattle.flow_reader.specs.declared.opening.RowRefused.TheVariants.{Bad, OutOfMemory}
 use Rattle.packet_reader.specs.declared.event.Event.{Event}
 use Rattle.packet_reader.specs.declared.kind.Kind.{Kind}
 use Rattle.packet_reader.specs.declared.mode.Mode.{Mode}
@@ -74,8 +72,6 @@ script_from mode shape (row ∷ rest) so_far number =
 unfoldable pub script_of : Mode → Size → ℕ → List Row → Result (List Event) BadRow
 script_of mode shape begin_row rest = script_from mode shape rest start (begin_row + 1)
 
--- the answer is this script or this bad row, or want of memory
-abbrev pub Answers : Result (List Event) BadRow → Result (Vec Event Global) RowRefused → Type 0
-Answers said (Ok events) = said ≡ Ok events.items
-Answers said (Err (Bad bad)) = said ≡ Err bad
-Answers said (Err OutOfMemory) = Unit {0}
+-- the events that a vector has
+abbrev pub events_of : Vec Event Global → List Event
+events_of events = events.items

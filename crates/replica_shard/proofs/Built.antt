@@ -11,7 +11,7 @@ use Rattle.flow_types.specs.Size.{Size, IsShape}
 use Rattle.flow_types.specs.Map.{AreDistinct}
 use Rattle.hash_family.specs.Hash.{place}
 use Rattle.block_layout.specs.Candidate.{candidate}
-use Rattle.block_layout.specs.declared.limits.TheConstants.{GROUPS}
+use Rattle.block_layout.specs.Limits.{group_count}
 use Rattle.group_search.specs.Build.{IsBuild}
 use Rattle.group_search.specs.Home.{choices, group_of, home}
 use Rattle.group_search.specs.Image.{Image}
@@ -31,7 +31,7 @@ no_record = Fallback []
 abbrev image_at : List Image → ℕ → Image
 image_at images block = slice_index_or images block no_image
 
-group_below : (bucket choice : ℕ) → candidate bucket choice < GROUPS
+group_below : (bucket choice : ℕ) → candidate bucket choice < group_count
 unfolding candidate
 group_below bucket choice = omega arith
 
@@ -91,7 +91,7 @@ record_is size flows images key blocks build =
     let bucket = (place size.blocks key).bucket in
     let image = build.each block no_image (block_below size.blocks key blocks) in
     let group = group_of (choices size.blocks block flows) bucket in
-    let low : group < GROUPS = group_below bucket _ in
+    let low : group < group_count = group_below bucket _ in
     let one_each = image.one_each in
     let records = (image_at images block).records in
     let within : group < length records = omega arith in

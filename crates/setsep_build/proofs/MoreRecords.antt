@@ -9,7 +9,7 @@ use Rattle.flow_types.specs.Map.{HaveDistinctKeys}
 use Rattle.group_search.specs.Rows.{entry_key}
 use Rattle.group_search.specs.declared.entry.Entry.{Entry}
 use Rattle.group_search.specs.declared.record.GroupRecord.{GroupRecord}
-use Rattle.group_search.specs.declared.limits.TheConstants.{MOST_ROWS}
+use Rattle.group_search.specs.Limits.{most_rows}
 use Rattle.group_search.specs.Build.{rows_needed}
 use Rattle.group_search.specs.Canon.{canonical}
 use Rattle.group_search.proofs.NeededRows.{without_record}
@@ -37,18 +37,18 @@ module _ (bits : ℕ) (groups : List ℕ) (all : List Placed) where
   unfolding needed_below
   more_needed n = sum_more (needed_at bits groups all) n
 
-  has_record-case : (entries : List Entry) (found : Option GroupRecord) → canonical bits entries ≡ found → rows_needed bits entries ≤ MOST_ROWS → is_some found ≡ true
+  has_record-case : (entries : List Entry) (found : Option GroupRecord) → canonical bits entries ≡ found → rows_needed bits entries ≤ most_rows → is_some found ≡ true
   has_record-case entries (Some content) is few = refl
   has_record-case entries None is few = let large = without_record entries bits is in absurd (omega (arith, large.0, large.1))
 
   -- a group that needs few rows has a record
-  has_record : (group : ℕ) → needed_at bits groups all group ≤ MOST_ROWS → is_some (group_record bits groups all group) ≡ true
+  has_record : (group : ℕ) → needed_at bits groups all group ≤ most_rows → is_some (group_record bits groups all group) ≡ true
   has_record group few = has_record-case (gathered groups group all) (group_record bits groups all group) refl few
 
   -- where the groups need few rows in all, each has a record
-  pub all_records : (n : ℕ) → needed_below n bits groups all ≤ MOST_ROWS → AreAll (group_record bits groups all) 0 n (records_below n bits groups all)
+  pub all_records : (n : ℕ) → needed_below n bits groups all ≤ most_rows → AreAll (group_record bits groups all) 0 n (records_below n bits groups all)
   unfolding records_below needed_below
-  all_records n few = somes_all MOST_ROWS (group_record bits groups all) (needed_at bits groups all) has_record n 0 few
+  all_records n few = somes_all most_rows (group_record bits groups all) (needed_at bits groups all) has_record n 0 few
 
 module _ (groups : List ℕ) (group : ℕ) (all : List Placed) where
   pub gathered_few : length (gathered groups group all) ≤ length all

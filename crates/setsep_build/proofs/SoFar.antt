@@ -11,7 +11,7 @@ use Rattle.setsep_build.specs.declared.block.Placed.{Placed}
 use Rattle.setsep_build.specs.declared.refused.BuildRefused.{BuildRefused}
 use Rattle.setsep_build.specs.Placing.{IsSpread, placed_in, placed_key}
 use Rattle.setsep_build.specs.Block.{IsImageOf, RefusesBlock}
-use Rattle.setsep_build.specs.Refused.{Tells}
+use Rattle.setsep_build.specs.Refused.{Refuses}
 use Rattle.setsep_build.proofs.FirstPast.{image_within, past_none, refuses}
 use Rattle.setsep_build.proofs.Lifted.{apart, lifted_image}
 
@@ -49,7 +49,7 @@ module _ (size : Size) (flows : List Flow) (bits block : ℕ) (blocks : List (Li
   block_apart distinct = subst (HaveDistinctKeys placed_key) (sym placed_are) (apart size.blocks block flows distinct)
 
   pub block_refused : (why : BuildRefused) → first_past_limit (size.blocks - block) block size flows ≡ past_limit size flows
-      → RefusesBlock bits block placed why → Tells (past_limit size flows) why
+      → RefusesBlock bits block placed why → Refuses size flows why
   block_refused why within is =
       let lifted : RefusesBlock (value_bits size.nodes) block (placed_in size.blocks block flows) why = rw (← bits_are, ← placed_are) is in
       refuses size flows block (size.blocks - block) (past_limit size flows) why (omega arith) within lifted

@@ -1,16 +1,17 @@
 -- What the build makes of the flows of one block.
-use Rattle.std.specs.Prelude.{ℕ, ◌≡◌, ◌<◌, ◌≤◌, List, length, map, sum, Option}
+use Rattle.std.specs.Prelude.{ℕ, ◌≡◌, ◌<◌, ◌≤◌, List, length, map, sum, Option, IfSome}
 use Rattle.std.specs.List.{range_with_len, filter_map, slice_get}
 use Rattle.block_layout.specs.Dealing.{choices_of}
 use Rattle.block_layout.specs.Limits.{group_count, most_keys}
 use Rattle.group_search.specs.Limits.{most_rows}
 use Rattle.group_search.specs.declared.record.GroupRecord.{GroupRecord}
-use Rattle.group_search.specs.Build.{rows_needed}
+use Rattle.group_search.specs.Build.{PastLimit, rows_needed}
+use Rattle.group_search.specs.Build.PastLimit.{TooManyFlows, TooManyRows}
 use Rattle.group_search.specs.Canon.{canonical}
 use Rattle.group_search.specs.Image.{Image}
 use Rattle.setsep_build.specs.declared.block.Placed.{Placed}
 use Rattle.setsep_build.specs.declared.refused.BuildRefused.{BuildRefused}
-use Rattle.setsep_build.specs.declared.refused.BuildRefused.TheVariants.{BlockFull, RowsFull, OutOfMemory}
+use Rattle.setsep_build.specs.Refused.{named_limit}
 use Rattle.setsep_build.specs.Placing.{gathered, groups_of, sizes_in}
 
 -- the record of a group of the block
@@ -57,8 +58,11 @@ pub record NeedsRows (bits block : ℕ) (all : List Placed) (named needed : ℕ)
   pub needed_is : needed ≡ needed_in bits all
   pub many : most_rows < needed
 
--- the cause for which the build of the block is refused
+-- the block is past this limit
+abbrev pub IsPastIn : (bits block : ℕ) → List Placed → PastLimit → Type 0
+IsPastIn bits block all (TooManyFlows named) = IsFull block all named
+IsPastIn bits block all (TooManyRows named needed) = NeedsRows bits block all named needed
+
+-- the build of the block is refused for the limit that it is past
 abbrev pub RefusesBlock : (bits block : ℕ) → List Placed → BuildRefused → Type 0
-RefusesBlock bits block all (BlockFull named) = IsFull block all named
-RefusesBlock bits block all (RowsFull named needed) = NeedsRows bits block all named needed
-RefusesBlock bits block all OutOfMemory = Unit {0}
+RefusesBlock bits block all why = IfSome (named_limit why) (IsPastIn bits block all)
