@@ -1,9 +1,9 @@
 pub mod Addresses
 pub mod Decimals
-pub mod Elements
-pub mod KeyedFlows
 pub mod Digits
 pub mod Dotted
+pub mod Elements
+pub mod KeyedFlows
 pub mod Numerals
 pub mod Octets
 pub mod Reading

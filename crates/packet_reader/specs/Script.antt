@@ -1,5 +1,6 @@
 -- The rows after `begin`, as the events of a script.
-use Rattle.std.specs.Prelude.{ℕ, ◌+◌, Bool, false, if◌then◌else◌, List, [], ◌∷◌, ◌++◌, Option, Some, None, is_none, option_to_list, Result, Ok, Err}
+use Rattle.std.specs.Prelude.{ℕ, ◌+◌, Bool, false, if◌then◌else◌, List, [], ◌∷◌, ◌++◌, Option, Some, None, is_none, option_to_list, Result, Ok, Err, Vec}
+use Rattle.std.specs.Global.{Global}
 use Rattle.flow_types.specs.Size.{Size}
 use Rattle.flow_types.specs.declared.why.BadRow.{BadRow}
 use Rattle.flow_types.specs.declared.why.Why.{Why}
@@ -70,3 +71,7 @@ script_from mode shape (row ∷ rest) so_far number =
 -- the script that the rows after `begin` say, or the first of them that is bad; `begin` stands in the row of this number
 unfoldable pub script_of : Mode → Size → ℕ → List Row → Result (List Event) BadRow
 script_of mode shape begin_row rest = script_from mode shape rest start (begin_row + 1)
+
+-- the events that a vector has
+abbrev pub events_of : Vec Event Global → List Event
+events_of events = events.items

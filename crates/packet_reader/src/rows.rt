@@ -1,12 +1,12 @@
 ghost use Rattle.std.specs.Prelude.{◌≡◌, ◌+◌, ◌<◌, ◌≤◌, ◌^◌, All, length, drop, IfOk, OnOk};
+ghost use Rattle.out_of_memory.specs.Answer.{Answers};
 ghost use Rattle.flow_types.specs.Input.{most_octets};
 ghost use Rattle.csv_rows.specs.Reading.{IsReading, rows_left};
 ghost use Rattle.csv_rows.specs.Rows.{rows};
-ghost use Rattle.out_of_memory.specs.Answer.{Answers};
 ghost use Rattle.flow_reader.specs.Opening.{bad_row, named_row};
 ghost use Rattle.packet_reader.specs.FirstBad.{IsScript};
 ghost use Rattle.packet_reader.specs.Form.{HasFewPhases, IsFormed};
-ghost use Rattle.packet_reader.specs.Script.{script_of};
+ghost use Rattle.packet_reader.specs.Script.{events_of, script_of};
 
 use crate::event::Event;
 use crate::mode::Mode;
@@ -32,7 +32,7 @@ pub fn read_script(
 ) -> Result<Vec<Event>, RowRefused>
     requires limit { length bytes.now ≤ most_octets }
     requires begun { begin_row ≤ length (rows bytes.now) }
-    ensures answers { Answers (λ events. events.items) named_row (script_of mode shape begin_row (drop begin_row (rows bytes.now))) result }
+    ensures answers { Answers events_of named_row (script_of mode shape begin_row (drop begin_row (rows bytes.now))) result }
 
     // What that makes of the events and of their rows.
     ensures script { IfOk result (λ events. IsScript mode shape (drop begin_row (rows bytes.now)) events.items) }
@@ -56,7 +56,7 @@ pub fn read_script_from(
 ) -> Result<Vec<Event>, RowRefused>
     requires reading { IsReading reader.old }
     requires few { begin_row + length (rows_left reader.old) + 1 < 2 ^ 32 }
-    ensures answers { Answers (λ events. events.items) named_row (script_of mode shape begin_row (rows_left reader.old)) result }
+    ensures answers { Answers events_of named_row (script_of mode shape begin_row (rows_left reader.old)) result }
 
     // What that makes of the events and of their rows.
     ensures script { IfOk result (λ events. IsScript mode shape (rows_left reader.old) events.items) }

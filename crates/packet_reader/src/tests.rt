@@ -238,7 +238,7 @@ fn read_after_syncs(
 
 #[test]
 fn counts_a_storms_phases(rt: HostRuntime) -> Result<(), Fail> {
-    let cases: [(usize, &[u8], Mode, Result<usize, BadRow>); 6] = [
+    let cases: [(usize, &[u8], Mode, Result<usize, BadRow>); 8] = [
         (255, b"end\n", Mode::Storm, Ok(255)),
         (
             256,
@@ -271,6 +271,16 @@ fn counts_a_storms_phases(rt: HostRuntime) -> Result<(), Fail> {
             Err(BadRow {
                 row: 259,
                 why: Why::TooManyPhases,
+            }),
+        ),
+        (66_000, b"end\n", Mode::Replay, Ok(66_000)),
+        (
+            66_000,
+            b"del\nend\n",
+            Mode::Replay,
+            Err(BadRow {
+                row: 66_003,
+                why: Why::Fields,
             }),
         ),
         (300, b"end\n", Mode::Replay, Ok(300)),
@@ -376,7 +386,8 @@ fn reads_whole_inputs(rt: HostRuntime) -> Result<(), Fail> {
 // Both readers go on with one reader of rows.
 #[test]
 fn reads_in_one_pass(rt: HostRuntime) -> Result<(), Fail> {
-    let text = b"cluster,4,1\nflow,10.0.0.1,192.0.2.7,1000,443,6,2,77,192.168.0.9\nbegin\ndel,10.0.0.1,192.0.2.7,1000,443,6\nsync\nend\n";
+    let text =
+        b"cluster,4,1\nflow,10.0.0.1,192.0.2.7,1000,443,6,2,77,192.168.0.9\nbegin\ndel,10.0.0.1,192.0.2.7,1000,443,6\nsync\nend\n";
     let mut reader = RowReader::new(rt.alloc(), text);
     let opening = match read_opening_from(rt.alloc(), &mut reader) {
         Ok(opening) => opening,
