@@ -1,12 +1,11 @@
--- One more flow of a block is looked at.
-use Rattle.std.proofs.Common.{ℕ, ◌≡◌, ◌∙◌, ◌+◌, ◌<◌, Bool, true, false, cond, List, [], ◌∷◌, ◌++◌, length, take, get_or, set, map, ap, sym, refl, eq-eqb, ◌≢◌, ⊎_elim, inl, inr, arith}
+-- One more flow of a block is looked at, and its entry goes into its group.
+use Rattle.std.proofs.Common.{ℕ, ◌≡◌, ◌≢◌, ◌∙◌, ◌+◌, ◌<◌, Bool, true, false, cond, List, [], ◌∷◌, ◌++◌, length, take, get_or, set, map, ap, sym, refl, arith, eq-eqb, ⊎_elim, inl, inr}
+use Rattle.std.specs.Prelude.{All, filter}
 use Rattle.std.proofs.lemmas.Bool.{cases_eq, cases_lt, ne_eqb}
 use Rattle.std.proofs.lemmas.Grind.{get_or-set_at}
-use Rattle.std.proofs.lemmas.List.{get_or-set_other, get_or_past}
-use Rattle.group_search.specs.declared.entry.Entry.{Entry}
-use Rattle.std.specs.Prelude.{filter, All}
-use Rattle.std.proofs.lemmas.List.{map-append, append-nil}
+use Rattle.std.proofs.lemmas.List.{append-nil, get_or-set_other, get_or_past, map-append}
 use Rattle.std.proofs.lemmas.List.Elements.{filter_more}
+use Rattle.group_search.specs.declared.entry.Entry.{Entry}
 use Rattle.setsep_build.specs.declared.block.Placed.{Placed}
 use Rattle.setsep_build.specs.Placing.{is_group, entry_in, gathered}
 

@@ -1,4 +1,4 @@
-ghost use Rattle.std.specs.Prelude.{ℕ, ◌≡◌, ◌<◌, List, [], OnOk, All, slice_index_or};
+ghost use Rattle.std.specs.Prelude.{ℕ, ◌≡◌, ◌<◌, List, [], IfOk, OnOk, All, replicate, slice_index_or};
 ghost use Rattle.group_search.specs.declared.entry.Entry.{Entry};
 ghost use Rattle.setsep_build.specs.Placing.{AreGathered};
 
@@ -42,7 +42,9 @@ impl Model for Groups {
 
 impl Groups {
     /// Groups without entries.
-    pub fn new(alloc: Global) -> Result<Groups, AllocError> {
+    pub fn new(alloc: Global) -> Result<Groups, AllocError>
+        ensures { IfOk result (λ groups. groups ≡ replicate 64 []) }
+    {
         let mut groups = Vec::with_capacity(alloc, GROUPS as usize)?;
         'groups: for _ in 0..GROUPS {
             groups.push(Group {
