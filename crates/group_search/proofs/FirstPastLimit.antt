@@ -7,7 +7,7 @@ use Rattle.flow_types.specs.Size.{Size}
 use Rattle.block_layout.specs.Limits.{most_keys}
 use Rattle.group_search.specs.Limits.{most_rows}
 use Rattle.group_search.specs.Home.{flows_of}
-use Rattle.group_search.specs.Build.{IsFirstPast, IsPastLimit, IsWithin, NamesTheFirst, PastLimit, TellsTheFirst, block_of, first_past_limit, needed, or_later, past_limit, past_limit_at}
+use Rattle.group_search.specs.Build.{IsPastLimit, IsWithin, NamesTheFirst, PastLimit, TellsTheFirst, block_of, first_past_limit, needed, or_later, past_limit, past_limit_at}
 use Rattle.group_search.specs.Build.PastLimit.{TooManyFlows, TooManyRows}
 
 module _ (size : Size) (flows : List Flow) where
