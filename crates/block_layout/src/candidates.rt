@@ -2,7 +2,7 @@ ghost use Rattle.std.specs.Prelude.{◌≡◌, ◌<◌};
 ghost use Rattle.block_layout.specs.Candidate as layout;
 ghost use Rattle.block_layout.specs.Limits.{candidate_count, group_count};
 
-use crate::limits::{CANDIDATES, GROUPS};
+use crate::limits::GROUPS;
 
 /// How far the candidates of a bucket stand apart, for each quarter of the buckets. No two quarters have the same
 /// distance, so that buckets which share one candidate share few others.

@@ -4,7 +4,6 @@ ghost use Rattle.block_layout.specs.Choices.{choice_octets, none_chosen, Replace
 ghost use Rattle.block_layout.specs.Limits.{candidate_count, group_count};
 
 use crate::candidates::candidate;
-use crate::limits::CANDIDATES;
 use std::marker::Model;
 
 /// The choice of each bucket of a block: which of its four candidates is its group.

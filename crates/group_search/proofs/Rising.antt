@@ -1,5 +1,5 @@
 -- Rows by rising key: rows with the same members are the same list, and entries' rows are such a list.
-use Rattle.std.proofs.Common.{◌≡◌, ◌≢◌, ◌⊎◌, ℕ, zero, suc, ◌+◌, ◌<◌, ◌≤◌, Bool, true, false, cond, List, [], ◌∷◌, length, map, get_or, sym, ◌∙◌, ap, refl, arith, add-one, subst, ⊎_elim, inl, inr}
+use Rattle.std.proofs.Common.{◌≡◌, ◌≢◌, ℕ, zero, suc, ◌+◌, ◌<◌, ◌≤◌, Bool, true, false, cond, List, [], ◌∷◌, length, map, get_or, sym, ◌∙◌, ap, refl, arith, add-one, subst, ⊎_elim}
 use Rattle.std.specs.Prelude.{All, AllPairs, Contains, IsPermutation, nat_lt}
 use Rattle.std.specs.List.{refill}
 use Rattle.std.proofs.lemmas.Bool.Decides.{nat_tests}

@@ -6,7 +6,7 @@ ghost use Rattle.block_layout.specs.Limits.{most_keys};
 ghost use Rattle.group_search.specs.Limits.{most_rows};
 ghost use Rattle.group_search.specs.Rows.{entry_key};
 ghost use Rattle.group_search.specs.Serving.{IsSeparable};
-ghost use Rattle.group_search.specs.Canon.{IsCanonical, canonical, fallback, is_separable, least_pairs};
+ghost use Rattle.group_search.specs.Canon.{IsCanonical, canonical, is_separable, least_pairs};
 
 use crate::entry::{Entry, Pair};
 use crate::limits::{MOST_BITS, MOST_ROWS};

@@ -4,7 +4,6 @@ ghost use Rattle.group_search.specs.Decoding.{decode, node_of, value_of};
 ghost use Rattle.group_search.specs.Canon.{rows_in};
 
 use crate::entry::Pair;
-use crate::limits::MOST_BITS;
 use crate::rows::{Row, Rows};
 use crate::served::Served;
 use flow_types::FlowKey;
