@@ -1,5 +1,6 @@
 ghost use Rattle.std.specs.Prelude.{◌≡◌, ◌≤◌, IfOk, length};
-ghost use Rattle.group_search.specs.Records.{AreDistinct, AreHandled};
+ghost use Rattle.flow_types.specs.Map.{AreDistinct};
+ghost use Rattle.group_search.specs.Records.{AreHandled};
 
 use crate::keys::draw;
 use flow_types::{Flow, FlowKey, Record, Shape};

@@ -1,6 +1,6 @@
 -- A report of replay is a run's.
-use Rattle.std.proofs.Common.{◌≡◌, ℕ, List, Ok, refl, subst}
-use Rattle.csv_rows.specs.Rows.{rows}
+use Rattle.std.proofs.Common.{◌≡◌, ◌∙◌, ℕ, List, Ok, refl, sym, ap, subst}
+use Rattle.csv_rows.specs.Rows.{Row, rows}
 use Rattle.flow_reader.proofs.FirstBadFacts.{opening-law}
 use Rattle.flow_reader.specs.Opening.{opening_of}
 use Rattle.flow_reader.specs.declared.opening.Opening.{Opening}
@@ -15,10 +15,13 @@ use Rattle.cluster_replay.proofs.FirstBadFacts.{outcome_law}
 use Rattle.cluster_replay.proofs.PathFacts.{replayed_paths, replayed_routes}
 
 -- the opening that was read, built and reached is the report's
-pub replay_runs : (bytes text : List ℕ) (opening : Opening) → outcome bytes ≡ Ok text → opening_of (rows bytes) ≡ Ok opening → AreHandled opening.shape.nodes opening.flows
+pub replay_runs : (bytes text : List ℕ) (all : List Row) (opening : Opening) → all ≡ rows bytes → outcome bytes ≡ Ok text → opening_of all ≡ Ok opening → AreHandled opening.shape.nodes opening.flows
     → ReachesHandlers opening.shape opening.flows → IsRunOf Replay 1 bytes text
-replay_runs bytes text opening gives opens handled reached = of_report (((outcome_law opening-law bytes).printed text).0 gives)
+replay_runs bytes text all opening all_are gives said handled reached = of_report (((outcome_law opening-law bytes).printed text).0 gives)
   where
+    opens : opening_of (rows bytes) ≡ Ok opening
+    opens = sym (ap opening_of all_are) ∙ said
+
     of_report : IsReportOf (rows bytes) text → IsRunOf Replay 1 bytes text
     of_report r =
         let also : opening_of (rows bytes) ≡ Ok r.opening = ((opening-law (rows bytes)).made r.opening).1 r.readable.opens in

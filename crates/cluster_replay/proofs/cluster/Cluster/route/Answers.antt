@@ -11,6 +11,6 @@ returns c =
     let owner : c.from-2.result < c.self.inside.shape.nodes = search rules in
     let block : (place c.self.inside.shape.blocks c.args.key).block < c.self.inside.shape.blocks = search rules in
     let owns : c.from-2.result ≡ (place c.self.inside.shape.blocks c.args.key).block % c.self.inside.shape.nodes = search rules in
-    rw (← c.self.view_is) (c.route.ensures.value ∙ ap (λ (to : Option ℕ). let route : Route = record { version = 0; node = to } in route)
+    rw (← c.self.view_is) (c.route_at.ensures.value ∙ ap (λ (to : Option ℕ). let route : Route = record { version = 0; node = to } in route)
     (sent c.self.inside.shape c.self.inside.flows.items c.self.inside.nodes.items c.self.invariant c.args.key c.from.result c.from-2.result c.index-at.result.now
     c.index-shard.result.now _ in_range c.index-at.ensures owner block c.index-shard.ensures owns refl))
