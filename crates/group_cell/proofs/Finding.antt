@@ -1,5 +1,5 @@
 -- What is found of a key in a group's places, and what the record says of it.
-use Rattle.std.proofs.Common.{◌≡◌, ℕ, zero, suc, ◌+◌, ◌*◌, ◌^◌, ◌<◌, ◌≤◌, ◌≢◌, ◌⊎◌, inl, inr, ⊎_elim, Bool, true, false, cond, eqb, eq-eqb, ne_eqb, List, [], ◌∷◌, ◌++◌, length, get_or, refl, sym, ap, ◌∙◌, subst, arith, Option, Some, None, option_map}
+use Rattle.std.proofs.Common.{◌≡◌, ℕ, zero, suc, ◌+◌, ◌<◌, ◌≢◌, inl, inr, Bool, true, false, cond, eqb, eq-eqb, ne_eqb, List, [], ◌∷◌, ◌++◌, length, get_or, refl, sym, ap, ◌∙◌, subst, arith, Option, Some, None, option_map}
 use mathlib.Core.Logic.{dite}
 use native.Mathlib.Decide.{ℕ_discrete}
 use mathlib.Core.Option.{some, some-injective, some-ne-none}
@@ -13,12 +13,11 @@ use Rattle.group_search.specs.declared.record.GroupRecord.TheVariants.{Served, F
 use Rattle.group_search.specs.declared.rows.Row.{Row}
 use Rattle.group_search.specs.Home.{Home}
 use Rattle.group_search.specs.Decoding.{node_of}
-use Rattle.group_search.specs.Rows.{key_number, IsRising, AreRows}
-use Rattle.group_search.specs.RowWords.{SpellsRow}
+use Rattle.group_search.specs.Rows.{key_number, IsRising}
 use Rattle.group_search.proofs.RowWordLemmas.{spells_one_row}
 use Rattle.group_cell.specs.declared.view.Load.{Load}
 use Rattle.group_cell.specs.Layout.{low_word, high_word, low, high, place_words, tag}
-use Rattle.group_cell.specs.Rule.{HasLoad, HasLoaded, Holds, HasRow, IsFresh, RowsStand, rows_of, IsSound}
+use Rattle.group_cell.specs.Rule.{HasLoad, Holds, HasRow, IsFresh, RowsStand}
 use Rattle.group_cell.specs.Plays.{load}
 use Rattle.group_cell.proofs.Groups.{tag_of_row}
 use Rattle.group_cell.specs.Seating.{IsFound, StandsFound, LacksKey, GivesNode, RowsGive}

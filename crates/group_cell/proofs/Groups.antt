@@ -1,5 +1,5 @@
 -- What a store of one word leaves of the groups.
-use Rattle.std.proofs.Common.{◌≡◌, ℕ, ◌+◌, ◌-◌, ◌*◌, ◌/◌, ◌%◌, ◌^◌, ◌<◌, ◌≤◌, ◌≢◌, ◌⊎◌, inl, inr, ⊎_elim, List, [], ◌∷◌, length, get_or, set, refl, sym, ap, ◌∙◌, subst, arith, length-set, get_or-set_other, get_or-set_same}
+use Rattle.std.proofs.Common.{◌≡◌, ℕ, ◌+◌, ◌/◌, ◌^◌, ◌<◌, ◌≢◌, ◌⊎◌, inl, inr, ⊎_elim, List, [], ◌∷◌, length, set, refl, sym, ap, ◌∙◌, subst, arith, get_or-set_other, get_or-set_same}
 use mathlib.Core.Logic.{dite}
 use native.Mathlib.Decide.{ℕ_discrete}
 use Rattle.group_search.specs.declared.record.GroupRecord.{GroupRecord}
@@ -8,7 +8,7 @@ use Rattle.group_search.specs.Home.{Home}
 use Rattle.group_search.specs.RowWords.{SpellsRow}
 use Rattle.group_search.proofs.RowWordLemmas.{group_above}
 use Rattle.group_cell.specs.Layout.{home_at, low_word, high_word, sequence_word, data_word, low, high, place_words, sequence, datum, tag}
-use Rattle.group_cell.specs.Rule.{HasRow, RowsStand, Holds, rows_of}
+use Rattle.group_cell.specs.Rule.{RowsStand, Holds, rows_of}
 use Rattle.group_cell.specs.Changes.{SameGroup, Untouched}
 use Rattle.group_cell.proofs.Versions.{one_home}
 

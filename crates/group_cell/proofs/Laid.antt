@@ -1,6 +1,5 @@
 -- The words of a table before it is opened.
-use Rattle.std.proofs.Common.{◌≡◌, ℕ, zero, suc, ◌+◌, ◌-◌, ◌*◌, ◌<◌, ◌≤◌, ◌≢◌, List, [], ◌∷◌, ◌++◌, length, get_or, set, take, replicate, refl, sym, ap, ◌∙◌, subst, arith, Bool, cond, eqb, eq-eqb, length-set, length-append, get_or-set_other, get_or-set_same, inl, inr}
-use Rattle.std.specs.Prelude.{sum_by, Some}
+use Rattle.std.proofs.Common.{◌≡◌, ℕ, zero, suc, ◌+◌, ◌-◌, ◌*◌, ◌<◌, ◌≤◌, ◌≢◌, List, [], ◌∷◌, ◌++◌, length, get_or, set, replicate, refl, sym, ap, ◌∙◌, subst, arith, cond, eqb, length-set, length-append, get_or-set_other, get_or-set_same, inl, inr}
 use Rattle.std.proofs.lemmas.List.Folds.{sum_by-replicate}
 use Rattle.std.proofs.lemmas.List.{get_or-append_right}
 use mathlib.Core.Logic.{dite}
@@ -10,21 +9,19 @@ use lib.ListN.{get_or-append}
 use lib.Seq.{get_or-append_seam}
 use Rattle.group_search.specs.declared.record.GroupRecord.{GroupRecord}
 use Rattle.group_search.specs.declared.record.GroupRecord.TheVariants.{Served}
-use Rattle.group_search.specs.declared.rows.Row.{Row}
 use Rattle.group_search.specs.Canon.{rows_in}
 use Rattle.group_search.specs.Home.{Home}
 use Rattle.group_search.specs.Image.{Image}
 use Rattle.group_search.specs.Published.{opening_record}
-use Rattle.group_search.specs.RowWords.{SpellsRow}
 use Rattle.group_search.specs.Words.{HasBits, PacksTo, packed_of, words_of}
-use Rattle.group_cell.specs.Changes.{SameGroup, Untouched}
+use Rattle.group_cell.specs.Changes.{Untouched}
 use Rattle.group_cell.specs.Laying.{AreLaid, IsBare, IsBlockLaid, IsLaid, LeavesOthers, in_front}
-use Rattle.group_cell.specs.Layout.{low_word, high_word, data_word, sequence_word, low, high, sequence, datum, tag}
-use Rattle.group_cell.specs.Rule.{Holds, IsSound, RowsStand, rows_of}
+use Rattle.group_cell.specs.Layout.{low_word, high_word, data_word, sequence_word, high, sequence, datum, tag}
+use Rattle.group_cell.specs.Rule.{IsSound, RowsStand, rows_of}
 use Rattle.group_cell.specs.Seating.{AreOwners, places_of}
 use Rattle.group_cell.proofs.Versions.{one_home}
-use Rattle.group_cell.proofs.Groups.{holds_at, holds_on, high_of_own, low_of_free, own_word, rows_at, rows_on, sequence_above_high, sequence_above_low, tag_of_row, untouched-self, untouched-trans}
-use Rattle.group_cell.proofs.Placing.{none_left, owner_set, owners_low, owners_on, places_gained, places_kept, places_lost}
+use Rattle.group_cell.proofs.Groups.{holds_at, holds_on, high_of_own, low_of_free, own_word, rows_at, rows_on, sequence_above_high, sequence_above_low, untouched-self, untouched-trans}
+use Rattle.group_cell.proofs.Placing.{none_left, owner_set, owners_low, owners_on, places_kept}
 
 pub leaves-self : (at : Home) (words owners : List ℕ) → LeavesOthers at words words owners owners
 leaves-self at words owners = record { wide = refl; groups = λ other _ _. untouched-self other words; places = λ o _ _. refl }

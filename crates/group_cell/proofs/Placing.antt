@@ -11,7 +11,6 @@ use Rattle.group_search.specs.RowWords.{SpellsRow}
 use Rattle.group_cell.specs.Layout.{low_word, high_word, low, high, place_words, tag}
 use Rattle.group_cell.specs.Rule.{HasRow, RowsStand}
 use Rattle.group_cell.specs.Seating.{places_of, AreOwners}
-use Rattle.group_cell.proofs.Versions.{one_home}
 use Rattle.group_cell.proofs.Groups.{tag_of_row}
 
 none_count : (o : ℕ) (xs : List ℕ) → ((i : ℕ) → i < length xs → get_or xs i 0 ≢ o) → places_of o xs ≡ 0

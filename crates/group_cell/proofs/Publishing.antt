@@ -1,20 +1,17 @@
 -- A whole publication: what the writer's seat knows and keeps after each of its steps.
-use Rattle.std.proofs.Common.{◌≡◌, ℕ, ◌+◌, ◌-◌, ◌*◌, ◌^◌, ◌<◌, ◌≤◌, ◌≢◌, ◌⊎◌, inl, inr, ⊎_elim, List, [], ◌∷◌, ◌++◌, length, get_or, set, refl, sym, ap, ◌∙◌, subst, arith, length-set, get_or-set_other, get_or-set_same, Option, Some}
+use Rattle.std.proofs.Common.{◌≡◌, ℕ, ◌+◌, ◌-◌, ◌*◌, ◌<◌, ◌≤◌, ◌≢◌, ◌⊎◌, inl, inr, ⊎_elim, List, [], ◌∷◌, ◌++◌, length, get_or, set, refl, sym, ap, ◌∙◌, subst, arith, length-set, get_or-set_other, get_or-set_same}
 use mathlib.Core.Logic.{dite}
 use native.Mathlib.Decide.{ℕ_discrete}
 use Rattle.atomic_table.specs.Table.{Me}
 use Rattle.group_search.specs.declared.published.Publication.{Publication}
 use Rattle.group_search.specs.declared.record.GroupRecord.{GroupRecord}
-use Rattle.group_search.specs.declared.rows.Row.{Row}
 use Rattle.group_search.specs.Canon.{rows_in}
 use Rattle.group_search.specs.Home.{Home}
-use Rattle.group_search.specs.RowWords.{SpellsRow}
 use Rattle.group_search.specs.Words.{PacksTo, packed_of, words_of}
 use Rattle.group_cell.specs.declared.view.View.{View}
 use Rattle.group_cell.specs.declared.view.WriterView.{WriterView}
 use Rattle.group_cell.specs.Opening.{Opened}
-use Rattle.group_cell.specs.Changes.{SameGroup}
-use Rattle.group_cell.specs.Layout.{address, home, low_word, high_word, data_word, sequence_word, low, high, sequence, datum, tag}
+use Rattle.group_cell.specs.Layout.{low_word, high_word, sequence_word, low, high, sequence, datum}
 use Rattle.group_cell.specs.Rule.{Holds, IsIn, IsSound, RowsStand, latest, rows_of}
 use Rattle.group_cell.specs.Plays.{writer_view, IsWriter, begun, ended, publication}
 use Rattle.group_cell.specs.Seating.{Place, AreOwners, IsInWriting, IsWriterSeat, Rewrites, Tallies, Writes, WritesData, places_of, words_of_seat}

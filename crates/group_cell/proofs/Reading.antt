@@ -1,6 +1,6 @@
 -- A reader's steps, over its view and the writer's.
-use Rattle.std.proofs.Common.{◌≡◌, ℕ, ◌+◌, ◌*◌, ◌/◌, ◌^◌, ◌<◌, ◌≤◌, ◌≢◌, ◌⊎◌, inl, inr, ⊎_elim, List, [], ◌∷◌, ◌++◌, length, get_or, refl, sym, ap, ◌∙◌, subst, arith, le_refl, Option, Some, None, IfSome}
-use mathlib.Core.Option.{some, some-injective, some-ne-none}
+use Rattle.std.proofs.Common.{◌≡◌, ℕ, ◌+◌, ◌*◌, ◌/◌, ◌^◌, ◌<◌, ◌≢◌, ◌⊎◌, inl, inr, ⊎_elim, List, get_or, refl, sym, ap, ◌∙◌, subst, arith, le_refl, Option, Some, None, IfSome}
+use mathlib.Core.Option.{some, some-ne-none}
 use lib.ListN.{get_elem?}
 use Rattle.std.proofs.lemmas.Option.{none-some}
 use Rattle.atomic_table.proofs.Lists.{at_snoc}
@@ -13,7 +13,7 @@ use Rattle.group_cell.specs.declared.view.WriterView.{WriterView}
 use Rattle.group_cell.specs.declared.view.ReaderView.{ReaderView}
 use Rattle.group_cell.specs.Opening.{Opened}
 use Rattle.group_cell.specs.Layout.{address, home, sequence}
-use Rattle.group_cell.specs.Rule.{IsEven, IsIn, IsAtRest, IsFresh, AreFresh, HasLoad, HasLoaded, Holds, bits_of, latest, Stands, Looks, Sees}
+use Rattle.group_cell.specs.Rule.{IsEven, IsIn, IsAtRest, IsFresh, HasLoaded, Holds, bits_of, latest, Stands, Looks, Sees}
 use Rattle.group_cell.specs.Plays.{begun_look, looking, load, loaded_in, loaded, ended_in, looked}
 use Rattle.group_cell.proofs.Versions.{same_home_or, count_within, record_at-kept, extends-self, extends-trans}
 use Rattle.group_cell.proofs.Writing.{odd_now}

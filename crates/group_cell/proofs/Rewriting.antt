@@ -1,13 +1,11 @@
 -- The writer's seat after each of its stores.
-use Rattle.std.proofs.Common.{◌≡◌, ℕ, ◌+◌, ◌*◌, ◌<◌, ◌≤◌, ◌≢◌, ◌⊎◌, inl, inr, ⊎_elim, List, [], ◌∷◌, ◌++◌, length, get_or, set, refl, sym, ap, ◌∙◌, subst, arith, length-set, get_or-set_other, get_or-set_same, Option, Some, None}
-use mathlib.Core.Logic.{dite}
-use native.Mathlib.Decide.{ℕ_discrete}
+use Rattle.std.proofs.Common.{◌≡◌, ℕ, ◌+◌, ◌*◌, ◌<◌, ◌≤◌, ◌≢◌, ⊎_elim, List, [], length, get_or, set, refl, sym, ap, ◌∙◌, subst, arith, length-set, get_or-set_other}
 use Rattle.atomic_table.specs.Table.{Me}
 use Rattle.group_search.specs.Home.{Home}
 use Rattle.group_cell.specs.declared.view.WriterView.{WriterView}
 use Rattle.group_cell.specs.declared.view.View.{View}
 use Rattle.group_cell.specs.declared.view.View.TheVariants.{Writer}
-use Rattle.group_cell.specs.Layout.{address, low_word, high_word, data_word}
+use Rattle.group_cell.specs.Layout.{data_word}
 use Rattle.group_cell.specs.Plays.{writer_view, IsWriter, stored}
 use Rattle.group_cell.specs.Seating.{Place, IsSamePlace, IsInWriting, Rewrites, WritesData, words_of_seat}
 

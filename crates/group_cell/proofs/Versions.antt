@@ -8,7 +8,7 @@ use Rattle.group_search.specs.declared.published.Publication.{Publication}
 use Rattle.group_search.specs.declared.record.GroupRecord.{GroupRecord}
 use Rattle.group_search.specs.Home.{Home, is_home}
 use Rattle.group_search.specs.Image.{Image}
-use Rattle.group_search.specs.Published.{group_of, records_of, count, last, opening_record, record_at, Extends}
+use Rattle.group_search.specs.Published.{group_of, records_of, count, opening_record, record_at, Extends}
 
 -- two groups are the same or not
 pub one_home : (at other : Home) → at.block ≡ other.block → at.group ≡ other.group → at ≡ other

@@ -1,16 +1,16 @@
 -- The writer's steps, over its view alone.
-use Rattle.std.proofs.Common.{◌≡◌, ℕ, zero, suc, ◌+◌, ◌*◌, ◌^◌, ◌<◌, ◌≤◌, ◌≢◌, ◌⊎◌, inl, inr, ⊎_elim, List, [], ◌∷◌, ◌++◌, length, get_or, set, refl, sym, ap, ◌∙◌, subst, arith, length-set, length-append, get_or-set_other, get_or-set_same, Option, Some, None, IfSome}
+use Rattle.std.proofs.Common.{◌≡◌, ℕ, ◌+◌, ◌*◌, ◌^◌, ◌<◌, ◌≤◌, ◌≢◌, inl, inr, ⊎_elim, List, [], ◌∷◌, ◌++◌, length, get_or, set, refl, sym, ap, ◌∙◌, subst, arith, length-set, length-append, get_or-set_other, get_or-set_same, Option, Some, None, IfSome}
 use Rattle.group_search.specs.declared.published.Publication.{Publication}
 use Rattle.group_search.specs.declared.record.GroupRecord.{GroupRecord}
 use Rattle.group_search.specs.Home.{Home}
-use Rattle.group_search.specs.Published.{count, group_of, Extends}
+use Rattle.group_search.specs.Published.{count, Extends}
 use Rattle.group_cell.specs.declared.view.Address.{Address}
 use Rattle.group_cell.specs.declared.view.Load.{Load}
 use Rattle.group_cell.specs.declared.view.Sight.{Sight}
 use Rattle.group_cell.specs.declared.view.WriterView.{WriterView}
 use Rattle.group_cell.specs.declared.view.ReaderView.{ReaderView}
 use Rattle.group_cell.specs.Layout.{address, home, sequence_word, sequence, tag, high}
-use Rattle.group_cell.specs.Rule.{IsEven, IsIn, IsAtRest, IsFresh, AreFresh, Rests, Holds, bits_of, latest, Stands, Looks, Sees}
+use Rattle.group_cell.specs.Rule.{IsEven, IsIn, IsAtRest, IsFresh, Rests, Holds, bits_of, latest, Stands, Looks, Sees}
 use Rattle.group_cell.specs.Plays.{begun, stored, ended, publication}
 use Rattle.group_cell.proofs.Versions.{same_home_or, count_here, count_else, latest_here, latest_else, extends-self, extends-snoc, extends-trans}
 use Rattle.group_cell.specs.Changes.{SameGroup, Untouched}

@@ -1,9 +1,8 @@
 -- What the contracts of the steps say of a seat, from its view.
-use Rattle.std.specs.Prelude.{◌≡◌, ◌≢◌, ◌⊎◌, ℕ, ◌+◌, ◌*◌, ◌%◌, ◌/◌, ◌^◌, ◌<◌, ◌≤◌, ◌==◌, List, [], ◌∷◌, ◌++◌, length, Option, Some, None, MatchOption, slice_index, slice_index_or, count_by}
+use Rattle.std.specs.Prelude.{◌≡◌, ◌≢◌, ◌⊎◌, ℕ, ◌+◌, ◌*◌, ◌/◌, ◌^◌, ◌<◌, ◌≤◌, ◌==◌, List, [], ◌∷◌, length, Option, Some, None, MatchOption, slice_index, slice_index_or, count_by}
 use Rattle.atomic_table.specs.declared.shared.Seat.{Seat}
 use Rattle.flow_types.specs.declared.key.FlowKey.{FlowKey}
 use Rattle.flow_types.specs.Key.{number}
-use Rattle.group_search.specs.declared.published.Publication.{Publication}
 use Rattle.group_search.specs.declared.record.GroupRecord.{GroupRecord}
 use Rattle.group_search.specs.declared.record.GroupRecord.TheVariants.{Served, Fallback}
 use Rattle.group_search.specs.declared.rows.Row.{Row}
@@ -20,8 +19,8 @@ use Rattle.group_cell.specs.declared.view.ReaderView.{ReaderView}
 use Rattle.group_cell.specs.declared.view.View.{View}
 use Rattle.group_cell.specs.declared.view.View.TheVariants.{Writer, Reader}
 use Rattle.group_cell.specs.Opening.{Opened}
-use Rattle.group_cell.specs.Layout.{address, data_word, home, high, high_word, low_word, place_words, sequence, datum, tag}
-use Rattle.group_cell.specs.Rule.{HasLoad, IsIn, RowsStand, latest}
+use Rattle.group_cell.specs.Layout.{address, data_word, high, high_word, low_word, tag}
+use Rattle.group_cell.specs.Rule.{HasLoad, IsIn, latest}
 use Rattle.group_cell.specs.Plays.{writer_view, reader_view, IsWriter, IsReader, begun_look, looking, load}
 
 abbrev pub Place : Type 0

@@ -2,7 +2,6 @@
 use Rattle.std.specs.Prelude.{◌≡◌, ◌≢◌, ◌⊎◌, ℕ, zero, suc, ◌+◌, ◌*◌, ◌%◌, ◌==◌, List, Option, Some, if◌then◌else◌}
 use Rattle.flow_types.specs.declared.key.FlowKey.{FlowKey}
 use Rattle.group_search.specs.declared.published.Publication.{Publication}
-use Rattle.group_search.specs.declared.record.GroupRecord.{GroupRecord}
 use Rattle.group_search.specs.Canon.{rows_in}
 use Rattle.group_search.specs.Decoding.{decode}
 use Rattle.group_search.specs.Home.{Home}

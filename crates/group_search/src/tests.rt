@@ -4,7 +4,8 @@ ghost use Rattle.group_search.specs.Rows.{entry_key};
 
 use crate::{
     Entry, GroupRecord, Packed, Pair, Row, Rows, Served, TooMany, canon, canonical_gives_each_node,
-    canonical_ignores_order, least, least_plain, pack, separable, the_limits_are, unpack,
+    canonical_ignores_order, least, least_plain, pack, row_of, row_words, separable, served_node,
+    the_limits_are, unpack, words_spell_one_row,
 };
 use flow_types::FlowKey;
 use hash_family::{HashPair, mix, position};
@@ -247,4 +248,40 @@ fn packs_as_laid_out(rt: HostRuntime) -> Result<(), Fail> {
     assert_eq!(rt; pack(&record), words);
     assert_eq!(rt; unpack(words, 1), Some(Packed::Fallback { rows: 3 }));
     Ok(())
+}
+
+// A row of 10.0.0.1, 192.0.2.7, 1000, 443, 6.
+#[test]
+fn spells_rows_as_laid_out(rt: HostRuntime) {
+    words_spell_one_row();
+    let key = FlowKey {
+        source: 0x0A00_0001,
+        destination: 0xC000_0207,
+        source_port: 1000,
+        destination_port: 443,
+        protocol: 6,
+    };
+    let row = Row { key, node: 2 };
+    let words = [0x0002_0703_E801_BB06, 0x0006_020A_0000_01C0];
+    assert_eq!(rt; row_words(&row, 5), words);
+    assert_eq!(rt; row_of(words), Some((5, row)));
+    assert_eq!(rt; row_of([words[0], words[1] % (1 << 48)]), None);
+    assert_eq!(rt; row_of([words[0], words[1] + (59 << 48)]), None);
+    let last = row_of([words[0], words[1] + (58 << 48)]);
+    assert_eq!(rt; last, Some((63, row)));
+}
+
+#[test]
+fn decodes_packed_words(rt: HostRuntime) {
+    let pair = |array| Pair { index: 0, array };
+    let none = pair(0);
+    let record = GroupRecord::Served(Served {
+        bits: 2,
+        pairs: [pair(0x0F), pair(0xA5), none, none],
+    });
+    let words = pack(&record);
+    for protocol in 0..=255 {
+        let key = key(3, protocol);
+        assert_eq!(rt; served_node(words, 2, 3, key), record.decode(3, key));
+    }
 }

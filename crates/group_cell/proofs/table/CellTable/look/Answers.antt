@@ -1,17 +1,11 @@
-use Rattle.std.proofs.Common.{arith, ◌≡◌, ℕ, ◌*◌, ◌/◌, ◌%◌, List, [], inl, inr, refl, sym, ap, ◌∙◌, subst, eqb, ne_eqb, if◌then◌else◌, Bool, Option, Some, None}
-use Rattle.atomic_table.specs.Table.{Me}
+use Rattle.std.proofs.Common.{arith, ◌≡◌, ℕ, ◌*◌, ◌/◌, ◌%◌, List, [], inl, inr, refl, sym, ap, ◌∙◌, subst, eqb, ne_eqb, if◌then◌else◌, Bool, Some, None}
 use Rattle.group_search.specs.declared.published.Publication.{Publication}
-use Rattle.group_search.specs.Home.{Home}
 use Rattle.group_search.specs.Published.{count}
-use Rattle.group_cell.specs.declared.view.Load.{Load}
 use Rattle.group_cell.specs.declared.view.Sight.{Sight}
-use Rattle.group_cell.specs.declared.view.ReaderView.{ReaderView}
-use Rattle.group_cell.specs.declared.view.View.{View}
-use Rattle.group_cell.specs.Opening.{Opened}
 use Rattle.group_cell.specs.Layout.{address}
-use Rattle.group_cell.specs.Rule.{HasLoaded, IsEven, bits_of, latest}
-use Rattle.group_cell.specs.Plays.{reader_view, begun_look, ended_in, looked}
-use Rattle.group_cell.specs.Seating.{Place, last_look, loads_of, the_look}
+use Rattle.group_cell.specs.Rule.{IsEven}
+use Rattle.group_cell.specs.Plays.{reader_view}
+use Rattle.group_cell.specs.Seating.{loads_of}
 use Rattle.group_cell.specs.Seats.{the_group, opened}
 use Rattle.group_cell.proofs.Answering.{first_is, has_looked, is_looking, last_begun, look_begun, node_is, opening_then, seen_now, seen_then}
 use Rattle.group_cell.proofs.Looking.{goes_on-trans}

@@ -1,4 +1,4 @@
-use Rattle.std.proofs.Common.{arith, ◌≡◌, ℕ, ◌+◌, ◌*◌, ◌/◌, ◌<◌, ◌^◌, List, [], length, get_or, refl, sym, ap, ◌∙◌, subst, None, Some, Option, IfSome}
+use Rattle.std.proofs.Common.{arith, ◌≡◌, ℕ, ◌/◌, get_or, sym, ap, ◌∙◌, subst, None, Option, IfSome}
 use Rattle.atomic_table.specs.Table.{Me}
 use Rattle.group_search.specs.Home.{Home}
 use Rattle.group_search.specs.Published.{count}
@@ -7,7 +7,7 @@ use Rattle.group_cell.specs.declared.view.View.{View}
 use Rattle.group_cell.specs.declared.view.WriterView.{WriterView}
 use Rattle.group_cell.specs.Opening.{Opened}
 use Rattle.group_cell.specs.Layout.{datum, home, sequence}
-use Rattle.group_cell.specs.Rule.{IsAtRest, IsIn, Rests, Stands}
+use Rattle.group_cell.specs.Rule.{IsIn, Rests, Stands}
 use Rattle.group_cell.specs.Plays.{writer_view}
 use Rattle.group_cell.specs.Seating.{StandsFound}
 use Rattle.group_cell.specs.Seats.{opened, the_group}

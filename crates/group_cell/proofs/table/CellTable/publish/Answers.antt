@@ -1,13 +1,10 @@
-use Rattle.std.proofs.Common.{arith, ◌≡◌, ◌≢◌, ℕ, ◌+◌, ◌<◌, List, [], length, get_or, set, refl, sym, ap, ◌∙◌, subst}
-use Rattle.flow_types.specs.Size.{value_bits}
+use Rattle.std.proofs.Common.{arith, ◌≡◌, ◌≢◌, ℕ, ◌+◌, List, [], get_or, set, sym, ap, ◌∙◌, subst}
 use Rattle.group_search.specs.declared.rows.Row.{Row}
-use Rattle.group_search.specs.Home.{Home}
-use Rattle.group_cell.specs.declared.view.WriterView.{WriterView}
 use Rattle.group_cell.specs.Opening.{Opened}
 use Rattle.group_cell.specs.Rule.{Holds, IsIn, RowsStand, bits_of}
 use Rattle.group_cell.specs.Plays.{writer_view}
 use Rattle.group_cell.specs.Seating.{Tallies, places_of, words_of_seat}
-use Rattle.group_cell.specs.Seats.{opened, rows_beside, the_group}
+use Rattle.group_cell.specs.Seats.{opened, the_group}
 use Rattle.group_cell.proofs.Publishing.{holds_now, in_owners, item_is, opening_now, seat_after, tallies_after}
 use Rattle.group_cell.proofs.Room.{room_now}
 use Rattle.group_cell.proofs.table.CellTable.publish.Goals as goal

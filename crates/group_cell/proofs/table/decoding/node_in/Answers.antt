@@ -1,8 +1,5 @@
-use Rattle.std.proofs.Common.{◌≡◌, ℕ, ◌∷◌, [], sym, ap, ◌∙◌, subst, Option, None, MatchOption, refl}
-use Rattle.flow_types.specs.Key.{number}
-use Rattle.group_search.specs.declared.rows.Row.{Row}
+use Rattle.std.proofs.Common.{ℕ, sym, ap, ◌∙◌, subst, Option, MatchOption, refl}
 use Rattle.group_search.specs.Rows.{key_number}
-use Rattle.group_search.specs.RowWords.{SpellsRow}
 use Rattle.group_search.proofs.RowWordLemmas.{spells_one_row}
 use Rattle.group_cell.specs.Seating.{GivesNode, LacksKey}
 use Rattle.group_cell.proofs.table.decoding.node_in.Goals as goal

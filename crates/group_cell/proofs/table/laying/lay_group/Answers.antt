@@ -1,4 +1,4 @@
-use Rattle.std.proofs.Common.{arith, ◌≡◌, ℕ, ◌+◌, List, get_or, set, refl, sym, ap, ◌∙◌, subst}
+use Rattle.std.proofs.Common.{arith, List, get_or, refl, ◌∙◌, subst}
 use Rattle.group_search.specs.declared.rows.Row.{Row}
 use Rattle.group_cell.specs.Laying.{in_front}
 use Rattle.group_cell.specs.Rule.{RowsStand}

@@ -1,6 +1,5 @@
-use Rattle.std.proofs.Common.{arith, ◌≡◌, ℕ, ◌+◌, List, [], ◌∷◌, ◌++◌, get_or, set, sym, ap, ◌∙◌, subst}
+use Rattle.std.proofs.Common.{arith, ℕ, ◌+◌, List, [], ◌∷◌, ◌++◌, get_or, set, sym, ◌∙◌, subst}
 use Rattle.group_cell.specs.Laying.{in_front}
-use Rattle.group_cell.specs.Layout.{low_word, high_word, tag}
 use Rattle.group_cell.specs.Rule.{RowsStand}
 use Rattle.group_cell.proofs.Groups.{tag_of_row}
 use Rattle.group_cell.proofs.Placing.{placed, places_lost, places_gained, spelled_items}

@@ -1,4 +1,4 @@
-use Rattle.std.proofs.Common.{arith, ◌≡◌, ℕ, ◌+◌, ap, sym, ◌∙◌}
+use Rattle.std.proofs.Common.{arith, ◌≡◌, ◌+◌}
 use Rattle.group_cell.specs.declared.view.Load.{Load}
 use Rattle.group_cell.specs.Layout.{home, tag}
 use Rattle.group_cell.specs.Rule.{HasLoad}

@@ -1,4 +1,4 @@
-use Rattle.std.proofs.Common.{arith, ℕ, List, length-set, ap, sym, ◌∙◌, get_or}
+use Rattle.std.proofs.Common.{arith, ℕ, length-set, ap, ◌∙◌, get_or}
 use Rattle.atomic_table.specs.Table.{Me}
 use Rattle.group_cell.specs.declared.view.View.{View}
 use Rattle.group_cell.specs.Layout.{home}

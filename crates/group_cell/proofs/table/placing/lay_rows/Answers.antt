@@ -1,4 +1,4 @@
-use Rattle.std.proofs.Common.{arith, ◌≡◌, ℕ, ◌+◌, List, ◌++◌, ◌∷◌, [], take, refl, sym, ap, ◌∙◌, subst}
+use Rattle.std.proofs.Common.{arith, List, take, refl, sym, ◌∙◌, subst}
 use Rattle.std.proofs.lemmas.List.{take_more}
 use Rattle.group_search.specs.declared.rows.Row.{Row}
 use Rattle.group_cell.specs.Layout.{home}

@@ -1,6 +1,5 @@
-use Rattle.std.proofs.Common.{arith, ◌≡◌, ℕ, List, ◌+◌, [], ◌∷◌, ◌++◌, set, get_or, inl, inr, refl, sym, ap, ◌∙◌, subst}
-use Rattle.group_search.specs.declared.rows.Row.{Row}
-use Rattle.group_cell.specs.Layout.{home, high, low_word, high_word, tag}
+use Rattle.std.proofs.Common.{arith, ◌≡◌, ℕ, List, ◌+◌, [], ◌∷◌, ◌++◌, set, get_or, inl, inr, sym, ap, ◌∙◌, subst}
+use Rattle.group_cell.specs.Layout.{home, high, low_word, high_word}
 use Rattle.group_cell.specs.Rule.{RowsStand}
 use Rattle.group_cell.specs.Seating.{AreOwners, words_of_seat}
 use Rattle.group_cell.proofs.Groups.{IsOwn, tag_of_row}

@@ -1,5 +1,5 @@
 use Rattle.std.proofs.Common.{arith, ℕ, List, inl, inr, refl, sym, ◌∙◌, ap, subst, set}
-use Rattle.group_cell.specs.Layout.{home, high, high_word}
+use Rattle.group_cell.specs.Layout.{home, high}
 use Rattle.group_cell.specs.Seating.{AreOwners, words_of_seat}
 use Rattle.group_cell.proofs.Groups.{IsOwn}
 use Rattle.group_cell.proofs.Keeps.{stores_high}

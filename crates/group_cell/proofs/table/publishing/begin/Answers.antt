@@ -1,4 +1,4 @@
-use Rattle.std.proofs.Common.{arith, ◌≡◌, ℕ, ◌+◌, ◌*◌, ◌^◌, ◌<◌, List, get_or, set, refl, sym, ap, ◌∙◌, subst, None}
+use Rattle.std.proofs.Common.{arith, ◌≡◌, ℕ, ◌+◌, ◌^◌, ◌<◌, get_or, set, sym, ap, ◌∙◌, subst, None}
 use Rattle.atomic_table.specs.Table.{Me}
 use Rattle.group_search.specs.Home.{Home}
 use Rattle.group_cell.specs.declared.view.View.{View}

@@ -1,5 +1,4 @@
-use Rattle.std.proofs.Common.{arith, ◌≡◌, ℕ, refl, sym, ap, ◌∙◌, subst}
-use Rattle.group_search.specs.declared.record.GroupRecord.{GroupRecord}
+use Rattle.std.proofs.Common.{arith, ◌≡◌, sym, ap, ◌∙◌, subst}
 use Rattle.group_cell.specs.declared.view.View.TheVariants.{Writer}
 use Rattle.group_cell.specs.Layout.{home, home_at}
 use Rattle.group_cell.specs.Rule.{Holds, bits_of}
