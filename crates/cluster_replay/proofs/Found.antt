@@ -1,18 +1,10 @@
 -- What is in a list, in what a test keeps of it, and what a search of it finds.
-use Rattle.std.proofs.Common.{◌≡◌, ◌∙◌, ◌+◌, zero, suc, add-one, Bool, true, false, cond, List, [], ◌∷◌, Some, None, refl, sym, ap, arith, inl, inr, Contains}
+use Rattle.std.proofs.Common.{◌≡◌, ◌∙◌, Bool, true, false, cond, List, [], ◌∷◌, Some, None, refl, sym, ap, arith, inl, inr, Contains}
 use Rattle.std.specs.Prelude.{◌⊎◌, filter, find}
 use Rattle.std.proofs.lemmas.Bool.{true≢false}
+use Rattle.flow_types.proofs.Elements.{Contains-later, Contains_cases}
 
 module _ {X : Type 0} where
-  -- what is in a list is in the list with one more before it
-  contains-later : (first : X) (xs : List X) (x : X) → Contains xs x → Contains (first ∷ xs) x
-  contains-later first xs x (k, within, is) = (k + 1, omega arith, rw add-one is)
-
-  -- what is in a list with one more stands first or later
-  contains-cases : (first : X) (xs : List X) (x : X) → Contains (first ∷ xs) x → (first ≡ x) ⊎ Contains xs x
-  contains-cases first xs x (zero, within, is) = inl is
-  contains-cases first xs x (suc k, within, is) = inr (k, omega arith, is)
-
   module _ (test : X → Bool) where
     -- what is kept was in the list
     pub kept-there : (xs : List X) (x : X) → Contains (filter test xs) x → Contains xs x
@@ -20,22 +12,22 @@ module _ {X : Type 0} where
     kept-there (first ∷ xs) x there = by (test first) there (kept-there xs x)
       where
         by : (b : Bool) → Contains (cond b (first ∷ filter test xs) (filter test xs)) x → (Contains (filter test xs) x → Contains xs x) → Contains (first ∷ xs) x
-        by false kept rest = contains-later first xs x (rest kept)
-        by true kept rest = which (contains-cases first (filter test xs) x kept)
+        by false kept rest = Contains-later first x xs (rest kept)
+        by true kept rest = which (Contains_cases first x (filter test xs) kept)
           where
             which : (first ≡ x) ⊎ Contains (filter test xs) x → Contains (first ∷ xs) x
             which (inl is) = (0, omega arith, is)
-            which (inr later) = contains-later first xs x (rest later)
+            which (inr later) = Contains-later first x xs (rest later)
 
     -- what passes the test is kept
     pub there-kept : (xs : List X) (x : X) → Contains xs x → test x ≡ true → Contains (filter test xs) x
     there-kept [] x there passes = there
-    there-kept (first ∷ xs) x there passes = by (test first) refl (contains-cases first xs x there) (there-kept xs x)
+    there-kept (first ∷ xs) x there passes = by (test first) refl (Contains_cases first x xs there) (there-kept xs x)
       where
         by : (b : Bool) → test first ≡ b → (first ≡ x) ⊎ Contains xs x → (Contains xs x → test x ≡ true → Contains (filter test xs) x)
             → Contains (cond b (first ∷ filter test xs) (filter test xs)) x
         by true e (inl is) rest = (0, omega arith, is)
-        by true e (inr later) rest = contains-later first (filter test xs) x (rest later passes)
+        by true e (inr later) rest = Contains-later first x (filter test xs) (rest later passes)
         by false e (inl is) rest = absurd (true≢false (sym passes ∙ sym (ap test is) ∙ e))
         by false e (inr later) rest = rest later passes
 
@@ -49,12 +41,12 @@ module _ {X : Type 0} where
         by true e is rest =
             let same : first ≡ x = cc in
             ((0, omega arith, same), sym (ap test same) ∙ e)
-        by false e is rest = let later = rest is in (contains-later first xs x later.0, later.1)
+        by false e is rest = let later = rest is in (Contains-later first x xs later.0, later.1)
 
     -- where none is found, nothing in the list passes the test
     pub none-there : (xs : List X) (x : X) → find test xs ≡ None → Contains xs x → test x ≡ false
     none-there [] x none (k, within, is) = absurd (omega (arith, within))
-    none-there (first ∷ xs) x none there = by (test first) refl none (contains-cases first xs x there) (none-there xs x)
+    none-there (first ∷ xs) x none there = by (test first) refl none (Contains_cases first x xs there) (none-there xs x)
       where
         by : (b : Bool) → test first ≡ b → cond b (Some first) (find test xs) ≡ None → (first ≡ x) ⊎ Contains xs x
             → (find test xs ≡ None → Contains xs x → test x ≡ false) → test x ≡ false

@@ -1,4 +1,3 @@
-mod Pushed
 mod Counts
 mod LineByLine
 mod Words

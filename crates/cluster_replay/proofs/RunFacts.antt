@@ -1,9 +1,10 @@
 -- A report of replay is a run's.
-use Rattle.std.proofs.Common.{◌≡◌, ◌∙◌, ℕ, List, Ok, refl, sym, ap, subst}
+use Rattle.std.proofs.Common.{◌≡◌, ◌∙◌, ℕ, List, drop, None, Ok, refl, sym, ap, subst}
 use Rattle.csv_rows.specs.Rows.{Row, rows}
 use Rattle.flow_reader.proofs.FirstBadFacts.{opening-law}
 use Rattle.flow_reader.specs.Opening.{opening_of}
 use Rattle.flow_reader.specs.declared.opening.Opening.{Opening}
+use Rattle.group_search.specs.Build.{past_limit}
 use Rattle.group_search.specs.Records.{AreHandled}
 use Rattle.replica_shard.specs.Routed.{ReachesHandlers}
 use Rattle.cluster_replay.specs.FirstBad.{IsReportOf}
@@ -11,6 +12,10 @@ use Rattle.cluster_replay.specs.Headline.{IsRunOf}
 use Rattle.cluster_replay.specs.Headline.Mode.{Replay}
 use Rattle.cluster_replay.specs.Outcome.{opened, outcome}
 use Rattle.cluster_replay.specs.Replies.{replayed}
+use Rattle.cluster_replay.specs.Report.{report}
+use Rattle.cluster_replay.specs.Script.{script_of}
+use Rattle.cluster_replay.specs.declared.event.Event.{Event}
+use Rattle.cluster_replay.specs.declared.reply.Reply.{Reply}
 use Rattle.cluster_replay.proofs.FirstBadFacts.{outcome_law}
 use Rattle.cluster_replay.proofs.PathFacts.{replayed_paths, replayed_routes}
 
@@ -39,3 +44,15 @@ replay_runs bytes text all opening all_are gives said handled reached = of_repor
           routes = replayed_routes (opened r.opening) r.script handles reaches;
           of_mode = (refl, refl);
         }
+
+-- what was read, built, replied and printed is what the input comes to
+pub comes_to : (bytes text : List ℕ) (all left : List Row) (opening : Opening) (script : List Event) (replies : List Reply) → all ≡ rows bytes → opening_of all ≡ Ok opening
+    → left ≡ drop opening.begin_row all → script_of opening.shape.nodes opening.begin_row left ≡ Ok script → past_limit opening.shape opening.flows ≡ None
+    → replies ≡ replayed (opened opening) script → text ≡ report script replies → outcome bytes ≡ Ok text
+unfolding outcome
+comes_to bytes text all left opening script replies all_are said left_is says within replied prints =
+    let opens : opening_of (rows bytes) ≡ Ok opening = sym (ap opening_of all_are) ∙ said in
+    let rest : left ≡ drop opening.begin_row (rows bytes) = left_is ∙ ap (drop opening.begin_row) all_are in
+    let goes_on : script_of opening.shape.nodes opening.begin_row (drop opening.begin_row (rows bytes)) ≡ Ok script =
+    sym (ap (script_of opening.shape.nodes opening.begin_row) rest) ∙ says in
+    rw (opens, goes_on, within, prints, replied) refl

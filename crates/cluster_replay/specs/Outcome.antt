@@ -1,5 +1,5 @@
 -- What an input comes to.
-use Rattle.std.specs.Prelude.{◌≡◌, ℕ, List, drop, Option, Some, None, Result, Ok, Err}
+use Rattle.std.specs.Prelude.{ℕ, List, drop, Option, Some, None, Result, Ok, Err}
 use Rattle.csv_rows.specs.Rows.{Row, rows}
 use Rattle.flow_reader.specs.Opening.{opening_of}
 use Rattle.flow_reader.specs.declared.opening.Opening.{Opening}
@@ -8,7 +8,7 @@ use Rattle.flow_reader.specs.declared.opening.RowRefused.TheVariants as refused
 use Rattle.flow_types.specs.declared.why.BadRow.{BadRow}
 use Rattle.cluster_replay.specs.declared.event.Event.{Event}
 use Rattle.cluster_replay.specs.declared.fault.InputFault.{InputFault}
-use Rattle.cluster_replay.specs.declared.fault.InputFault.TheVariants.{Bad, BlockFull, RowsFull, OutOfMemory}
+use Rattle.cluster_replay.specs.declared.fault.InputFault.TheVariants.{Bad, OutOfMemory}
 use Rattle.group_search.specs.Build.{PastLimit, past_limit}
 use Rattle.cluster_replay.specs.Limits.{fault_of_limit}
 use Rattle.cluster_replay.specs.Replies.{replayed}

@@ -20,7 +20,7 @@ number_value max text = if is_numeral text then up_to max (digits_value 10 text)
 abbrev pub is_dot : ℕ → Bool
 is_dot c = c == 46
 
--- a number, where there is one, with one more octet with_octet it
+-- a number, where there is one, with one more octet below it
 abbrev pub with_octet : Option ℕ → Option ℕ → Option ℕ
 with_octet None octet = None
 with_octet (Some upper) None = None
