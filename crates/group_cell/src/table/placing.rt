@@ -55,8 +55,10 @@ pub fn put(shelf: &Shelf, seat: &mut Place, owners: &mut [u8; PLACES], at: Addre
 {
     let place = free_place(owners);
     let [first, second] = row_words(&row, at.group);
-    shelf.store::<Store>(seat, low_word(at.block, place), first);
-    shelf.store::<Store>(seat, high_word(at.block, place), second);
+    let low = low_word(at.block, place);
+    let high = high_word(at.block, place);
+    shelf.store::<Store>(seat, low, first);
+    shelf.store::<Store>(seat, high, second);
     owners[place] = at.group + 1;
 }
 
