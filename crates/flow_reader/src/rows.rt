@@ -35,10 +35,7 @@ pub fn read_opening(alloc: Global, bytes: &[u8]) -> Result<Opening, RowRefused>
 
 /// Reads the rows that a reader has left as `read_opening` reads those of the bytes. After `Ok` the reader has left the
 /// rows after `begin`; one with which this answered an error isn't asked again.
-pub fn read_opening_from(
-    alloc: Global,
-    reader: &mut RowReader<'_>,
-) -> Result<Opening, RowRefused>
+pub fn read_opening_from(alloc: Global, reader: &mut RowReader<'_>) -> Result<Opening, RowRefused>
     requires reading { IsReading reader.old }
     requires few { length (rows_left reader.old) + 1 < 2 ^ 32 }
     ensures answers { Answers (λ opening. opening) named_row (opening_of (rows_left reader.old)) result }
