@@ -61,7 +61,13 @@ fn table(rt: &(impl Print + AllocGlobal + Clock + Threads)) -> io::Result<()> {
     let Ok(images) = build(rt, rt.alloc(), shape, flows.as_slice(), 1) else {
         return println!(rt; "not built");
     };
-    line(rt, "build_a_key", u64::from(FLOWS), start.elapsed(rt)?, images.len() as u64)?;
+    line(
+        rt,
+        "build_a_key",
+        u64::from(FLOWS),
+        start.elapsed(rt)?,
+        images.len() as u64,
+    )?;
     let start = Instant::now(rt)?;
     let found = building::found(shape, images.as_slice(), flows.as_slice());
     line(rt, "look", u64::from(FLOWS), start.elapsed(rt)?, found)

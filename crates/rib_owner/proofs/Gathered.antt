@@ -12,7 +12,8 @@ use Rattle.flow_types.specs.Map.{AreDistinct, put, without}
 use Rattle.flow_types.proofs.KeyedFlows.{is_other}
 use Rattle.group_search.specs.declared.entry.Entry.{Entry}
 use Rattle.group_search.specs.Records.{entries, entry_of}
-use Rattle.group_search.specs.Rows.{HaveDistinctKeys}
+use Rattle.flow_types.specs.Map.{HaveDistinctKeys}
+use Rattle.group_search.specs.Rows.{entry_key}
 use Rattle.group_search.proofs.Mapped.{all_pairs_mapped}
 use Rattle.group_history.specs.declared.change.Change.{Change}
 use Rattle.group_history.specs.Change.{flow_to, step, with_at}
@@ -69,5 +70,5 @@ unfolding step
 gathered_removed flows change none = removed-case change.key change.to flows none
 
 -- the entries of a map have distinct keys
-pub distinct_entries : (flows : List Flow) → AreDistinct flows → HaveDistinctKeys (entries flows)
+pub distinct_entries : (flows : List Flow) → AreDistinct flows → HaveDistinctKeys entry_key (entries flows)
 distinct_entries flows distinct = all_pairs_mapped (λ (a : Entry) (b : Entry). number a.key ≢ number b.key) entry_of nobody flows distinct

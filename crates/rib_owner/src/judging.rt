@@ -1,7 +1,7 @@
 //! The judgement of an update by its key's block, one case after another.
 
 ghost use Rattle.std.specs.Prelude.{◌≡◌, ◌<◌, ◌≤◌, ℕ, IfOk, Some, length};
-ghost use Rattle.group_search.specs.declared.limits.TheConstants.{MOST_BITS};
+ghost use Rattle.flow_types.specs.Size.{most_value_bits};
 ghost use Rattle.group_search.specs.Canon.{canonical, rows_in};
 ghost use Rattle.group_search.specs.Records.{entries};
 ghost use Rattle.group_history.specs.Change.{step};
@@ -47,7 +47,7 @@ pub(crate) fn fitting_record(
     room: &mut Vec<Entry>,
 ) -> Result<GroupRecord, UpdateRefused>
     requires enough_bits { 1 ≤ bits }
-    requires few_bits { bits ≤ MOST_BITS }
+    requires few_bits { bits ≤ most_value_bits }
     requires kept { IsKept bits block.now }
     requires in_range { change.now.group < 64 }
     requires few { length (step (map_in block.now change.now.group) change.now) ≤ 1536 }

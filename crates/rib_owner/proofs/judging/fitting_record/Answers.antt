@@ -2,7 +2,8 @@ use Rattle.std.proofs.Common.{◌≡◌, ◌∙◌, subst, sym, ap, arith}
 use Rattle.group_search.specs.Build.{rows_needed}
 use Rattle.group_search.specs.Records.{entries}
 use Rattle.group_search.proofs.NeededRows.{rows_of_canonical, without_record}
-use Rattle.group_search.specs.Rows.{HaveDistinctKeys}
+use Rattle.flow_types.specs.Map.{HaveDistinctKeys}
+use Rattle.group_search.specs.Rows.{entry_key}
 use Rattle.group_history.specs.Change.{step}
 use Rattle.group_history.proofs.Versions.{distinct-step}
 use Rattle.rib_owner.specs.Rib.{map_in}
@@ -13,7 +14,7 @@ use Rattle.rib_owner.proofs.judging.fitting_record.Goals as goal
 pub canon-requires-clause-distinct : goal.canon-requires-clause-distinct
 canon-requires-clause-distinct c =
     let is : c.as_slice.result.now ≡ entries (step (map_in c.args.block.now c.args.change.now.group) c.args.change.now) = c.as_slice.ensures.value ∙ c.in_ok-gather.ensures in
-    subst HaveDistinctKeys (sym is)
+    subst (HaveDistinctKeys entry_key) (sym is)
     (distinct_entries (step (map_in c.args.block.now c.args.change.now.group) c.args.change.now)
     (distinct-step (map_in c.args.block.now c.args.change.now.group) c.args.change.now (c.requires.kept.distinct c.args.change.now.group)))
 
