@@ -15,7 +15,9 @@ use Rattle.replica_shard.specs.Routed.{ReachesHandlers, routed}
 use Rattle.cluster_replay.specs.declared.event.Event.{Event}
 use Rattle.cluster_replay.specs.declared.event.Event.TheVariants.{Packet}
 use Rattle.cluster_replay.specs.Headline.{AreRouted, named_node}
-use Rattle.cluster_replay.specs.Path.{Knows, Path, ArePaths, AtOpening, Route}
+use Rattle.cluster_replay.specs.Path.{Path, ArePaths, AtOpening}
+use Rattle.flow_types.specs.Map.{Knows}
+use Rattle.group_history.specs.Routes.{Route}
 use Rattle.cluster_replay.specs.Replies.{answer, fib_record, is_handled, reply_from, reply_to, replayed}
 use Rattle.cluster_replay.specs.State.{State}
 use Rattle.cluster_replay.proofs.Found.{found-there, none-there, kept-there, there-kept}

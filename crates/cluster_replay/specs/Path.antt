@@ -5,26 +5,12 @@ use Rattle.flow_types.specs.declared.key.FlowKey.{FlowKey}
 use Rattle.flow_types.specs.declared.record.Flow.{Flow}
 use Rattle.flow_types.specs.declared.record.Record.{Record}
 use Rattle.group_search.specs.Home.{home, opening}
+use Rattle.group_history.specs.Routes.{Answer, Route}
 use Rattle.cluster_replay.specs.State.{State}
 use Rattle.cluster_replay.specs.declared.event.Event.{Event}
 use Rattle.cluster_replay.specs.declared.event.Event.TheVariants.{Packet}
 use Rattle.cluster_replay.specs.declared.reply.Reply.{Reply}
 use Rattle.cluster_replay.specs.declared.reply.Reply.TheVariants.{Found, Unknown, Nowhere}
-
--- the flow of this key is known, with its handler and its record; a group's flows have distinct keys
-abbrev pub Knows : List Flow → FlowKey → ℕ → Record → Type 0
-Knows flows key node info = Contains flows (record { key = key; node = node; info = info })
-
--- where an ingress that knows these flows may send a packet: a flow that is known to its handler, and one that isn't to
--- any of the nodes, or nowhere
-pub record Route (nodes : ℕ) (flows : List Flow) (key : FlowKey) (to : Option ℕ) : Type 0 where
-  pub known : (node : ℕ) (info : Record) → Knows flows key node info → to ≡ Some node
-  pub unknown : ((node : ℕ) (info : Record) → ¬ Knows flows key node info) → IfSome to (λ node. node < nodes)
-
--- what a node answers by these flows: the record, where it is the flow's handler, and else that the flow is unknown
-abbrev pub Answer : List Flow → ℕ → FlowKey → Option Record → Type 0
-Answer flows node key (Some info) = Knows flows key node info
-Answer flows node key None = (info : Record) → ¬ Knows flows key node info
 
 -- a reply is a path of a packet with this key, where `At` tells the flows of the key's group at each version
 abbrev pub Path : ℕ → (ℕ → List Flow → Type 0) → FlowKey → Reply → Type 0

@@ -10,7 +10,7 @@ use Rattle.delta_codec.specs.declared.refused.DecodeRefused.TheVariants.{Short, 
 use Rattle.delta_codec.specs.Values.{IsMessage}
 use Rattle.delta_codec.specs.Spelling.{BeginsWith, spelling}
 use Rattle.delta_codec.specs.Fields.{fields, first_fault}
-use Rattle.delta_codec.specs.Refusals.{IsCutShort, IsFirstBad}
+use Rattle.delta_codec.specs.Refusals.{IsCutShort, IsFirstBroken}
 use Rattle.delta_codec.proofs.Begins.{begun, used_is}
 use Rattle.delta_codec.proofs.InARow.{fields_row}
 use Rattle.delta_codec.proofs.Same.{same_message}
@@ -41,7 +41,7 @@ is_err (Ok x) refused h = absurd cc
 is_err (Err other) refused h = let same : other ≡ refused = cc in ap Err same
 
 pub bad_exactly : {T : Type 0} (size : Size) (bytes : List ℕ) (result : Result T DecodeRefused) → result_err result ≡ first_fault bytes (fields size bytes)
-    → (at : ℕ) (why : BadField) → IsErrOf result (Bad at why) ↔ IsFirstBad bytes (fields size bytes) at why
+    → (at : ℕ) (why : BadField) → IsErrOf result (Bad at why) ↔ IsFirstBroken bytes (fields size bytes) at why
 bad_exactly size bytes result fault at why = (
   λ h. bad_first bytes (fields size bytes) at why (sym fault ∙ err_is result (Bad at why) h),
   λ h. is_err result (Bad at why) (fault ∙ first_bad bytes 0 (fields size bytes) at why (fields_row size bytes) h),

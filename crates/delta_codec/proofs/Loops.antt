@@ -12,9 +12,9 @@ use Rattle.group_search.specs.declared.limits.TheConstants.{MOST_BITS}
 use Rattle.group_search.specs.Served.{zero_pair}
 use Rattle.group_search.specs.Words.{IsPair}
 use Rattle.delta_codec.specs.declared.refused.DecodeRefused.{DecodeRefused}
-use Rattle.delta_codec.specs.Values.{IsKey}
+use Rattle.delta_codec.specs.Values.{IsKeyValue}
 use Rattle.delta_codec.specs.Spelling.{Stand, pair_octets, row_octets}
-use Rattle.delta_codec.specs.Fields.{fault_of, first_fault, free, key_at, key_field, node_field, pair_fields, row_fields}
+use Rattle.delta_codec.specs.Fields.{field_fault, first_fault, free, key_number_at, key_field, row_node_field, pair_fields, row_fields}
 use Rattle.delta_codec.proofs.Faults.{passed, stops}
 use Rattle.delta_codec.proofs.Lengths.{pairs-long, rows-long, row-long, flat_map-push}
 use Rattle.delta_codec.proofs.Standing.{Stand-append, Stand-joined}
@@ -67,13 +67,13 @@ module _ (bytes : List ℕ) (at bits done : ℕ) (pairs : List Pair) (place : �
         place_is = omega (arith, so_far.place_is);
         there = omega (arith, stands.there);
         faults = so_far.faults ∙ ap (λ n. first_fault bytes (pair_fields n place)) left
-            ∙ passed (fault_of bytes (free place 2)) (fault_of bytes (free (place + 2) 1)) _ sound;
+            ∙ passed (field_fault bytes (free place 2)) (field_fault bytes (free (place + 2) 1)) _ sound;
       }
 
   pub pairs_stop : (refused : DecodeRefused) → first_fault bytes (pair_fields 1 place) ≡ Some refused → first_fault bytes (pair_fields bits at) ≡ Some refused
   pairs_stop refused fault =
       so_far.faults ∙ ap (λ n. first_fault bytes (pair_fields n place)) left
-      ∙ stops (fault_of bytes (free place 2)) (fault_of bytes (free (place + 2) 1)) _ refused fault
+      ∙ stops (field_fault bytes (free place 2)) (field_fault bytes (free (place + 2) 1)) _ refused fault
 
 pub pairs_done : (bytes : List ℕ) (at bits : ℕ) (pairs : List Pair) (place : ℕ) → ReadPairs bytes at bits bits pairs place → first_fault bytes (pair_fields bits at) ≡ None
 pairs_done bytes at bits pairs place h =
@@ -85,7 +85,7 @@ pairs_done bytes at bits pairs place h =
 -- so many rows are read
 pub record ReadRows (nodes : ℕ) (bytes : List ℕ) (at count done : ℕ) (rows : List Row) (before : Option FlowKey) (place : ℕ) : Type 0 where
   pub counted : length rows ≡ done
-  pub sized : All (λ (row : Row). IsKey row.key) rows
+  pub sized : All (λ (row : Row). IsKeyValue row.key) rows
   pub stands : Stand bytes at (flat_map row_octets rows)
   pub place_is : place ≡ at + 14 * done
   pub there : place ≤ length bytes
@@ -105,26 +105,26 @@ module _ (nodes : ℕ) (bytes : List ℕ) (at count done : ℕ) (rows : List Row
   rows_left : count - done ≡ suc (count - (done + 1))
   rows_left = omega arith
 
-  pub rows_more : (row : Row) → Stand bytes place (row_octets row) → IsKey row.key → number row.key ≡ key_at bytes place → first_fault bytes (row_fields nodes bytes 1 (option_map number before) place) ≡ None
+  pub rows_more : (row : Row) → Stand bytes place (row_octets row) → IsKeyValue row.key → number row.key ≡ key_number_at bytes place → first_fault bytes (row_fields nodes bytes 1 (option_map number before) place) ≡ None
       → ReadRows nodes bytes at count (done + 1) (rows ++ row ∷ []) (Some row.key) (place + 14)
   rows_more row stands sized value sound =
       let next : place ≡ at + length (flat_map row_octets rows) = omega (arith, so_far.place_is, so_far.counted, rows-long rows) in
       let joined = Stand-append bytes at place (flat_map row_octets rows) (row_octets row) next so_far.stands stands in
       record {
         counted = omega (arith, so_far.counted, length-append rows (row ∷ []));
-        sized = All-push (λ (r : Row). IsKey r.key) rows row so_far.sized sized;
+        sized = All-push (λ (r : Row). IsKeyValue r.key) rows row so_far.sized sized;
         stands = subst (Stand bytes at) (sym (flat_map-push row_octets rows row)) joined;
         place_is = omega (arith, so_far.place_is);
         there = omega (arith, stands.there, row-long row);
         faults = so_far.faults ∙ ap (λ n. first_fault bytes (row_fields nodes bytes n (option_map number before) place)) rows_left
-            ∙ passed (fault_of bytes (key_field bytes (option_map number before) place)) (fault_of bytes (node_field nodes bytes (place + 13))) _ sound
+            ∙ passed (field_fault bytes (key_field bytes (option_map number before) place)) (field_fault bytes (row_node_field nodes bytes (place + 13))) _ sound
             ∙ ap (λ k. first_fault bytes (row_fields nodes bytes (count - (done + 1)) (Some k) (place + 14))) (sym value);
       }
 
   pub rows_stop : (refused : DecodeRefused) → first_fault bytes (row_fields nodes bytes 1 (option_map number before) place) ≡ Some refused → first_fault bytes (row_fields nodes bytes count None at) ≡ Some refused
   rows_stop refused fault =
       so_far.faults ∙ ap (λ n. first_fault bytes (row_fields nodes bytes n (option_map number before) place)) rows_left
-      ∙ stops (fault_of bytes (key_field bytes (option_map number before) place)) (fault_of bytes (node_field nodes bytes (place + 13))) _ refused fault
+      ∙ stops (field_fault bytes (key_field bytes (option_map number before) place)) (field_fault bytes (row_node_field nodes bytes (place + 13))) _ refused fault
 
 pub rows_done : (nodes : ℕ) (bytes : List ℕ) (at count : ℕ) (rows : List Row) (before : Option FlowKey) (place : ℕ) → ReadRows nodes bytes at count count rows before place
     → first_fault bytes (row_fields nodes bytes count None at) ≡ None

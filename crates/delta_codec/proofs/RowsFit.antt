@@ -8,10 +8,10 @@ use Rattle.flow_types.specs.Key.{number, octets}
 use Rattle.group_search.specs.declared.rows.Row.{Row}
 use Rattle.group_search.specs.Rows.{AreRows, IsRising, key_number}
 use Rattle.group_search.proofs.Rising.{rising_cons, rising_head, rising_tail}
-use Rattle.delta_codec.specs.Values.{IsKey}
+use Rattle.delta_codec.specs.Values.{IsKeyValue}
 use Rattle.delta_codec.specs.Fits.{RowsFit}
 use Rattle.delta_codec.specs.Spelling.{Stand, row_octets}
-use Rattle.delta_codec.specs.Fields.{fault_of, first_fault, is_above, key_at, key_field, node_field, octet_at, row_fields}
+use Rattle.delta_codec.specs.Fields.{field_fault, first_fault, is_above, key_number_at, key_field, row_node_field, byte_at, row_fields}
 use Rattle.delta_codec.specs.declared.refused.BadField.TheVariants.{Order, Node}
 use Rattle.delta_codec.proofs.Faults.{both_none, ruled_sound, ruled_met}
 use Rattle.delta_codec.proofs.Keys.{octets-long}
@@ -24,15 +24,15 @@ GoOn nodes before [] = Unit {0}
 GoOn nodes before (row ∷ rows) = (is_above before (number row.key) ≡ true) × (row.node < nodes) × GoOn nodes (Some (number row.key)) rows
 
 abbrev AreSized : List Row → Type 0
-AreSized rows = All (λ (row : Row). IsKey row.key) rows
+AreSized rows = All (λ (row : Row). IsKeyValue row.key) rows
 
 -- a row at a place
 record RowRead (bytes : List ℕ) (at : ℕ) (row : Row) : Type 0 where
-  key : key_at bytes at ≡ number row.key
-  node : octet_at bytes (at + 13) ≡ row.node
+  key : key_number_at bytes at ≡ number row.key
+  node : byte_at bytes (at + 13) ≡ row.node
   there : at + 14 ≤ length bytes
 
-row_read : (bytes : List ℕ) (at : ℕ) (row : Row) → IsKey row.key → Stand bytes at (row_octets row) → RowRead bytes at row
+row_read : (bytes : List ℕ) (at : ℕ) (row : Row) → IsKeyValue row.key → Stand bytes at (row_octets row) → RowRead bytes at row
 row_read bytes at row sized h = record {
   key = key_read bytes at row.key sized (Stand-first bytes at (octets row.key) (row.node ∷ []) h);
   node = octet_read bytes (at + 13) row.node (Stand-second bytes at (at + 13) (octets row.key) (row.node ∷ []) (omega (arith, octets-long row.key)) h);
@@ -44,33 +44,33 @@ module _ (nodes : ℕ) (bytes : List ℕ) where
       → first_fault bytes (row_fields nodes bytes (length rows) before at) ≡ None → GoOn nodes before rows
   rows_go_on [] before at sized h sound = tt
   rows_go_on (row ∷ rows) before at sized h sound =
-      let first = row_read bytes at row (All-head (λ (r : Row). IsKey r.key) row rows sized) (Stand-first bytes at (row_octets row) (flat_map row_octets rows) h) in
+      let first = row_read bytes at row (All-head (λ (r : Row). IsKeyValue r.key) row rows sized) (Stand-first bytes at (row_octets row) (flat_map row_octets rows) h) in
       let rest = Stand-second bytes at (at + 14) (row_octets row) (flat_map row_octets rows) (omega (arith, row-long row)) h in
-      let faults = both_none (fault_of bytes (key_field bytes before at)) _ sound in
-      let later = both_none (fault_of bytes (node_field nodes bytes (at + 13))) _ faults.1 in
-      let above = ruled_met bytes at 13 (is_above before (key_at bytes at)) Order faults.0 in
-      let below = ltb-true _ _ (ruled_met bytes (at + 13) 1 (nat_lt (octet_at bytes (at + 13)) nodes) Node later.0) in
+      let faults = both_none (field_fault bytes (key_field bytes before at)) _ sound in
+      let later = both_none (field_fault bytes (row_node_field nodes bytes (at + 13))) _ faults.1 in
+      let above = ruled_met bytes at 13 (is_above before (key_number_at bytes at)) Order faults.0 in
+      let below = ltb-true _ _ (ruled_met bytes (at + 13) 1 (nat_lt (byte_at bytes (at + 13)) nodes) Node later.0) in
       let sound_rest : first_fault bytes (row_fields nodes bytes (length rows) (Some (number row.key)) (at + 14)) ≡ None =
       subst (λ (k : ℕ). first_fault bytes (row_fields nodes bytes (length rows) (Some k) (at + 14)) ≡ None) first.key later.1 in (
         subst (λ (k : ℕ). is_above before k ≡ true) first.key above,
         subst (λ (n : ℕ). n < nodes) first.node below,
-        rows_go_on rows (Some (number row.key)) (at + 14) (All-tail (λ (r : Row). IsKey r.key) row rows sized) rest sound_rest,
+        rows_go_on rows (Some (number row.key)) (at + 14) (All-tail (λ (r : Row). IsKeyValue r.key) row rows sized) rest sound_rest,
       )
 
   pub rows_sound : (rows : List Row) (before : Option ℕ) (at : ℕ) → AreSized rows → Stand bytes at (flat_map row_octets rows)
       → GoOn nodes before rows → first_fault bytes (row_fields nodes bytes (length rows) before at) ≡ None
   rows_sound [] before at sized h go_on = refl
   rows_sound (row ∷ rows) before at sized h go_on =
-      let first = row_read bytes at row (All-head (λ (r : Row). IsKey r.key) row rows sized) (Stand-first bytes at (row_octets row) (flat_map row_octets rows) h) in
+      let first = row_read bytes at row (All-head (λ (r : Row). IsKeyValue r.key) row rows sized) (Stand-first bytes at (row_octets row) (flat_map row_octets rows) h) in
       let rest = Stand-second bytes at (at + 14) (row_octets row) (flat_map row_octets rows) (omega (arith, row-long row)) h in
       let there = first.there in
-      let above : is_above before (key_at bytes at) ≡ true = subst (λ (k : ℕ). is_above before k ≡ true) (sym first.key) go_on.0 in
-      let below : octet_at bytes (at + 13) < nodes = subst (λ (n : ℕ). n < nodes) (sym first.node) go_on.1 in
-      let key_sound = ruled_sound bytes at 13 (is_above before (key_at bytes at)) Order (omega arith) above in
-      let node_sound = ruled_sound bytes (at + 13) 1 (nat_lt (octet_at bytes (at + 13)) nodes) Node (omega arith) (lt-ltb _ _ below) in
-      let sound_rest : first_fault bytes (row_fields nodes bytes (length rows) (Some (key_at bytes at)) (at + 14)) ≡ None =
+      let above : is_above before (key_number_at bytes at) ≡ true = subst (λ (k : ℕ). is_above before k ≡ true) (sym first.key) go_on.0 in
+      let below : byte_at bytes (at + 13) < nodes = subst (λ (n : ℕ). n < nodes) (sym first.node) go_on.1 in
+      let key_sound = ruled_sound bytes at 13 (is_above before (key_number_at bytes at)) Order (omega arith) above in
+      let node_sound = ruled_sound bytes (at + 13) 1 (nat_lt (byte_at bytes (at + 13)) nodes) Node (omega arith) (lt-ltb _ _ below) in
+      let sound_rest : first_fault bytes (row_fields nodes bytes (length rows) (Some (key_number_at bytes at)) (at + 14)) ≡ None =
       subst (λ (k : ℕ). first_fault bytes (row_fields nodes bytes (length rows) (Some k) (at + 14)) ≡ None) (sym first.key)
-      (rows_sound rows (Some (number row.key)) (at + 14) (All-tail (λ (r : Row). IsKey r.key) row rows sized) rest go_on.2) in
+      (rows_sound rows (Some (number row.key)) (at + 14) (All-tail (λ (r : Row). IsKeyValue r.key) row rows sized) rest go_on.2) in
       rw (key_sound, node_sound) sound_rest
 
 -- ---- rows that go on are rising rows of nodes

@@ -21,10 +21,10 @@ use Rattle.delta_codec.specs.declared.message.Message.{Message}
 use Rattle.delta_codec.specs.declared.message.Message.TheVariants.{Table, Fib}
 use Rattle.delta_codec.specs.declared.message.TableMessage.{TableMessage}
 use Rattle.delta_codec.specs.declared.message.FibMessage.{FibMessage}
-use Rattle.delta_codec.specs.Values.{IsContent, IsInfo, IsKey, IsMessage, IsOperation}
+use Rattle.delta_codec.specs.Values.{IsContent, IsInfo, IsKeyValue, IsMessage, IsOperation}
 use Rattle.delta_codec.specs.Fits.{ContentFits, Fits}
-use Rattle.delta_codec.specs.Spelling.{Stand, four_octets, two_octets, pair_octets, row_octets, content_octets, operation_octets, spelling}
-use Rattle.delta_codec.specs.Fields.{octet_at}
+use Rattle.delta_codec.specs.Spelling.{Stand, octets_of_word, two_octets, pair_octets, row_octets, content_octets, operation_octets, spelling}
+use Rattle.delta_codec.specs.Fields.{byte_at}
 use Rattle.delta_codec.proofs.Keys.{fields_of, octets-long}
 use Rattle.delta_codec.proofs.Lengths.{row-long}
 use Rattle.delta_codec.proofs.Sound.{head_read}
@@ -34,12 +34,12 @@ module _ (bytes : List ℕ) (at : ℕ) where
   same_stand : (x y : List ℕ) → length x ≡ length y → Stand bytes at x → Stand bytes at y → x ≡ y
   same_stand x y e hx hy = sym hx.same ∙ ap (λ (n : ℕ). take n (drop at bytes)) e ∙ hy.same
 
-  pub same_key : (k l : FlowKey) → IsKey k → IsKey l → Stand bytes at (octets k) → Stand bytes at (octets l) → k ≡ l
+  pub same_key : (k l : FlowKey) → IsKeyValue k → IsKeyValue l → Stand bytes at (octets k) → Stand bytes at (octets l) → k ≡ l
   same_key k l fits_k fits_l hk hl = same_octets k l (fields_of k fits_k) (fields_of l fits_l) (same_stand (octets k) (octets l) (octets-long k ∙ sym (octets-long l)) hk hl)
 
-  pub same_four : (n m : ℕ) → n < 2 ^ 32 → m < 2 ^ 32 → Stand bytes at (four_octets n) → Stand bytes at (four_octets m) → n ≡ m
+  pub same_four : (n m : ℕ) → n < 2 ^ 32 → m < 2 ^ 32 → Stand bytes at (octets_of_word n) → Stand bytes at (octets_of_word m) → n ≡ m
   same_four n m fits_n fits_m hn hm =
-      sym (from_be_bytes-to_be_bytes_4 n fits_n) ∙ ap (from_be_bytes w32) (same_stand (four_octets n) (four_octets m) refl hn hm) ∙ from_be_bytes-to_be_bytes_4 m fits_m
+      sym (from_be_bytes-to_be_bytes_4 n fits_n) ∙ ap (from_be_bytes w32) (same_stand (octets_of_word n) (octets_of_word m) refl hn hm) ∙ from_be_bytes-to_be_bytes_4 m fits_m
 
   pub same_two : (n m : ℕ) → n < 2 ^ 16 → m < 2 ^ 16 → Stand bytes at (two_octets n) → Stand bytes at (two_octets m) → n ≡ m
   same_two n m fits_n fits_m hn hm = sym (two_read bytes at n fits_n hn) ∙ two_read bytes at m fits_m hm
@@ -71,7 +71,7 @@ module _ (bytes : List ℕ) where
       (Stand-second bytes at (at + 3) (pair_octets p) (flat_map pair_octets ps) refl hp) (Stand-second bytes at (at + 3) (pair_octets q) (flat_map pair_octets qs) refl hq) in
       ap (λ (x : Pair). x ∷ ps) first ∙ ap (λ (xs : List Pair). q ∷ xs) later
 
-  same_row : (at : ℕ) (r s : Row) → IsKey r.key → IsKey s.key → Stand bytes at (row_octets r) → Stand bytes at (row_octets s) → r ≡ s
+  same_row : (at : ℕ) (r s : Row) → IsKeyValue r.key → IsKeyValue s.key → Stand bytes at (row_octets r) → Stand bytes at (row_octets s) → r ≡ s
   unfolding row_of
   same_row at r s fits_r fits_s hr hs =
       let key = same_key bytes at r.key s.key fits_r fits_s (Stand-first bytes at (octets r.key) (r.node ∷ []) hr) (Stand-first bytes at (octets s.key) (s.node ∷ []) hs) in
@@ -79,13 +79,13 @@ module _ (bytes : List ℕ) where
       (Stand-second bytes at (at + 13) (octets s.key) (s.node ∷ []) (omega (arith, octets-long s.key)) hs) in
       ap (λ (k : FlowKey). row_of k r.node) key ∙ ap (row_of s.key) node
 
-  same_rows : (at : ℕ) (rs ss : List Row) → length rs ≡ length ss → All (λ (r : Row). IsKey r.key) rs → All (λ (r : Row). IsKey r.key) ss → Stand bytes at (flat_map row_octets rs) → Stand bytes at (flat_map row_octets ss) → rs ≡ ss
+  same_rows : (at : ℕ) (rs ss : List Row) → length rs ≡ length ss → All (λ (r : Row). IsKeyValue r.key) rs → All (λ (r : Row). IsKeyValue r.key) ss → Stand bytes at (flat_map row_octets rs) → Stand bytes at (flat_map row_octets ss) → rs ≡ ss
   same_rows at [] [] e fits_r fits_s hr hs = refl
   same_rows at [] (s ∷ ss) e fits_r fits_s hr hs = absurd (omega arith)
   same_rows at (r ∷ rs) [] e fits_r fits_s hr hs = absurd (omega arith)
   same_rows at (r ∷ rs) (s ∷ ss) e fits_r fits_s hr hs =
-      let first = same_row at r s (All-head (λ (r : Row). IsKey r.key) r rs fits_r) (All-head (λ (r : Row). IsKey r.key) s ss fits_s) (Stand-first bytes at (row_octets r) (flat_map row_octets rs) hr) (Stand-first bytes at (row_octets s) (flat_map row_octets ss) hs) in
-      let later = same_rows (at + 14) rs ss (omega arith) (All-tail (λ (r : Row). IsKey r.key) r rs fits_r) (All-tail (λ (r : Row). IsKey r.key) s ss fits_s)
+      let first = same_row at r s (All-head (λ (r : Row). IsKeyValue r.key) r rs fits_r) (All-head (λ (r : Row). IsKeyValue r.key) s ss fits_s) (Stand-first bytes at (row_octets r) (flat_map row_octets rs) hr) (Stand-first bytes at (row_octets s) (flat_map row_octets ss) hs) in
+      let later = same_rows (at + 14) rs ss (omega arith) (All-tail (λ (r : Row). IsKeyValue r.key) r rs fits_r) (All-tail (λ (r : Row). IsKeyValue r.key) s ss fits_s)
       (Stand-second bytes at (at + 14) (row_octets r) (flat_map row_octets rs) (omega (arith, row-long r)) hr) (Stand-second bytes at (at + 14) (row_octets s) (flat_map row_octets ss) (omega (arith, row-long s)) hs) in
       ap (λ (x : Row). x ∷ rs) first ∙ ap (λ (xs : List Row). s ∷ xs) later
 
@@ -109,15 +109,15 @@ info_of : ℕ → ℕ → Record
 info_of teid base = record { teid = teid; base = base }
 
 module _ (bytes : List ℕ) where
-  same_put : (at : ℕ) (k l : FlowKey) (i j : Record) → IsKey k → IsKey l → IsInfo i → IsInfo j
-      → Stand bytes at (octets k ++ (four_octets i.teid ++ four_octets i.base)) → Stand bytes at (octets l ++ (four_octets j.teid ++ four_octets j.base)) → Put k i ≡ Put l j
+  same_put : (at : ℕ) (k l : FlowKey) (i j : Record) → IsKeyValue k → IsKeyValue l → IsInfo i → IsInfo j
+      → Stand bytes at (octets k ++ (octets_of_word i.teid ++ octets_of_word i.base)) → Stand bytes at (octets l ++ (octets_of_word j.teid ++ octets_of_word j.base)) → Put k i ≡ Put l j
   unfolding info_of
   same_put at k l i j fits_k fits_l fits_i fits_j hi hj =
-      let key = same_key bytes at k l fits_k fits_l (Stand-first bytes at (octets k) (four_octets i.teid ++ four_octets i.base) hi) (Stand-first bytes at (octets l) (four_octets j.teid ++ four_octets j.base) hj) in
-      let ri = Stand-second bytes at (at + 13) (octets k) (four_octets i.teid ++ four_octets i.base) (omega (arith, octets-long k)) hi in
-      let rj = Stand-second bytes at (at + 13) (octets l) (four_octets j.teid ++ four_octets j.base) (omega (arith, octets-long l)) hj in
-      let teid = same_four bytes (at + 13) i.teid j.teid fits_i.teid fits_j.teid (Stand-first bytes (at + 13) (four_octets i.teid) (four_octets i.base) ri) (Stand-first bytes (at + 13) (four_octets j.teid) (four_octets j.base) rj) in
-      let base = same_four bytes (at + 17) i.base j.base fits_i.base fits_j.base (Stand-second bytes (at + 13) (at + 17) (four_octets i.teid) (four_octets i.base) (omega arith) ri) (Stand-second bytes (at + 13) (at + 17) (four_octets j.teid) (four_octets j.base) (omega arith) rj) in
+      let key = same_key bytes at k l fits_k fits_l (Stand-first bytes at (octets k) (octets_of_word i.teid ++ octets_of_word i.base) hi) (Stand-first bytes at (octets l) (octets_of_word j.teid ++ octets_of_word j.base) hj) in
+      let ri = Stand-second bytes at (at + 13) (octets k) (octets_of_word i.teid ++ octets_of_word i.base) (omega (arith, octets-long k)) hi in
+      let rj = Stand-second bytes at (at + 13) (octets l) (octets_of_word j.teid ++ octets_of_word j.base) (omega (arith, octets-long l)) hj in
+      let teid = same_four bytes (at + 13) i.teid j.teid fits_i.teid fits_j.teid (Stand-first bytes (at + 13) (octets_of_word i.teid) (octets_of_word i.base) ri) (Stand-first bytes (at + 13) (octets_of_word j.teid) (octets_of_word j.base) rj) in
+      let base = same_four bytes (at + 17) i.base j.base fits_i.base fits_j.base (Stand-second bytes (at + 13) (at + 17) (octets_of_word i.teid) (octets_of_word i.base) (omega arith) ri) (Stand-second bytes (at + 13) (at + 17) (octets_of_word j.teid) (octets_of_word j.base) (omega arith) rj) in
       ap (λ (x : FlowKey). Put x i) key ∙ ap (λ (n : ℕ). Put l (info_of n i.base)) teid ∙ ap (λ (n : ℕ). Put l (info_of j.teid n)) base
 
   tag : FibOp → ℕ
@@ -125,10 +125,10 @@ module _ (bytes : List ℕ) where
   tag (Put k i) = 1
   tag (Drop k) = 2
 
-  tag_read : (at : ℕ) (op : FibOp) → Stand bytes at (operation_octets op) → octet_at bytes at ≡ tag op
+  tag_read : (at : ℕ) (op : FibOp) → Stand bytes at (operation_octets op) → byte_at bytes at ≡ tag op
   unfolding tag octets
   tag_read at Nothing h = octet_read bytes at 0 h
-  tag_read at (Put k i) h = octet_read bytes at 1 (Stand-first bytes at (1 ∷ []) (octets k ++ (four_octets i.teid ++ four_octets i.base)) h)
+  tag_read at (Put k i) h = octet_read bytes at 1 (Stand-first bytes at (1 ∷ []) (octets k ++ (octets_of_word i.teid ++ octets_of_word i.base)) h)
   tag_read at (Drop k) h = octet_read bytes at 2 (Stand-first bytes at (2 ∷ []) (octets k) h)
 
   operation_from_tag : (at : ℕ) (o p : FibOp) → tag o ≡ tag p → IsOperation o → IsOperation p → Stand bytes at (operation_octets o) → Stand bytes at (operation_octets p) → o ≡ p
@@ -136,8 +136,8 @@ module _ (bytes : List ℕ) where
   operation_from_tag at Nothing Nothing e sized_o sized_p ho hp = refl
   operation_from_tag at (Put k i) (Put l j) e sized_o sized_p ho hp =
       same_put (at + 1) k l i j sized_o.0 sized_p.0 sized_o.1 sized_p.1
-      (Stand-second bytes at (at + 1) (1 ∷ []) (octets k ++ (four_octets i.teid ++ four_octets i.base)) refl ho)
-      (Stand-second bytes at (at + 1) (1 ∷ []) (octets l ++ (four_octets j.teid ++ four_octets j.base)) refl hp)
+      (Stand-second bytes at (at + 1) (1 ∷ []) (octets k ++ (octets_of_word i.teid ++ octets_of_word i.base)) refl ho)
+      (Stand-second bytes at (at + 1) (1 ∷ []) (octets l ++ (octets_of_word j.teid ++ octets_of_word j.base)) refl hp)
   operation_from_tag at (Drop k) (Drop l) e sized_o sized_p ho hp =
       ap Drop (same_key bytes (at + 1) k l sized_o sized_p (Stand-second bytes at (at + 1) (2 ∷ []) (octets k) refl ho) (Stand-second bytes at (at + 1) (2 ∷ []) (octets l) refl hp))
   operation_from_tag at Nothing (Put l j) e sized_o sized_p ho hp = absurd (omega arith)

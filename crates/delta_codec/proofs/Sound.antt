@@ -19,8 +19,8 @@ use Rattle.delta_codec.specs.declared.refused.BadField.TheVariants.{Kind, Owner,
 use Rattle.delta_codec.specs.declared.refused.DecodeRefused.{DecodeRefused}
 use Rattle.delta_codec.specs.Values.{IsContent, IsMessage}
 use Rattle.delta_codec.specs.Fits.{HeadFits, ContentFits, Fits}
-use Rattle.delta_codec.specs.Spelling.{Stand, head, two_octets, four_octets, pair_octets, row_octets, content_octets, operation_octets, spelling}
-use Rattle.delta_codec.specs.Fields.{content_fields, fields, first_fault, Field, head_fields, octet_at, operation_fields, pair_fields, row_fields, two_at}
+use Rattle.delta_codec.specs.Spelling.{Stand, head, two_octets, octets_of_word, pair_octets, row_octets, content_octets, operation_octets, spelling}
+use Rattle.delta_codec.specs.Fields.{content_fields, fields, first_fault, MessageField, head_fields, byte_at, operation_fields, pair_fields, row_fields, two_at}
 use Rattle.delta_codec.proofs.Faults.{first_fault-append, free_sound, ruled_sound}
 use Rattle.delta_codec.proofs.Keys.{octets-long}
 use Rattle.delta_codec.proofs.RowsFit.{rising-go_on, rows_sound}
@@ -28,11 +28,11 @@ use Rattle.delta_codec.proofs.Standing.{Stand-first, Stand-second, octet_read, t
 
 -- the fields of a head that stands at the beginning, and the body after it
 pub record HeadRead (bytes : List ℕ) (kind owner turn block group : ℕ) (body : List ℕ) : Type 0 where
-  pub kind_is : octet_at bytes 0 ≡ kind
-  pub owner_is : octet_at bytes 1 ≡ owner
+  pub kind_is : byte_at bytes 0 ≡ kind
+  pub owner_is : byte_at bytes 1 ≡ owner
   pub turn_is : two_at bytes 2 ≡ turn
   pub block_is : two_at bytes 4 ≡ block
-  pub group_is : octet_at bytes 6 ≡ group
+  pub group_is : byte_at bytes 6 ≡ group
   pub long : 7 ≤ length bytes
   pub rest : Stand bytes 7 body
 
@@ -57,18 +57,18 @@ head_sound : (size : Size) (bytes : List ℕ) (kind owner turn block group : ℕ
     → (kind == 0x11 || kind == 0x12) ≡ true → first_fault bytes (head_fields size bytes) ≡ None
 head_sound size bytes kind owner turn block group body h fits known =
     let long = h.long in
-    let kind_met : (octet_at bytes 0 == 0x11 || octet_at bytes 0 == 0x12) ≡ true = ap (λ (k : ℕ). k == 0x11 || k == 0x12) h.kind_is ∙ known in
-    let owner_met : nat_lt (octet_at bytes 1) size.nodes ≡ true = lt-ltb _ _ (omega (arith, h.owner_is, fits.owner_is_node)) in
+    let kind_met : (byte_at bytes 0 == 0x11 || byte_at bytes 0 == 0x12) ≡ true = ap (λ (k : ℕ). k == 0x11 || k == 0x12) h.kind_is ∙ known in
+    let owner_met : nat_lt (byte_at bytes 1) size.nodes ≡ true = lt-ltb _ _ (omega (arith, h.owner_is, fits.owner_is_node)) in
     let turn_met : nat_lt 0 (two_at bytes 2) ≡ true = lt-ltb 0 (two_at bytes 2) (subst (λ (n : ℕ). 0 < n) (sym h.turn_is) (omega (arith, fits.first_turn))) in
     let in_table : nat_lt (two_at bytes 4) size.blocks ≡ true = lt-ltb (two_at bytes 4) size.blocks (subst (λ (n : ℕ). n < size.blocks) (sym h.block_is) fits.in_table) in
-    let owned : (two_at bytes 4 % size.nodes == octet_at bytes 1) ≡ true = eq-eqb (two_at bytes 4 % size.nodes) (octet_at bytes 1) (ap (λ (n : ℕ). n % size.nodes) h.block_is ∙ fits.owned ∙ sym h.owner_is) in
-    let block_met : (nat_lt (two_at bytes 4) size.blocks && two_at bytes 4 % size.nodes == octet_at bytes 1) ≡ true = rw (in_table, owned) in
-    let group_met : nat_lt (octet_at bytes 6) 64 ≡ true = lt-ltb _ _ (omega (arith, h.group_is, fits.in_block)) in
-    let k = ruled_sound bytes 0 1 (octet_at bytes 0 == 0x11 || octet_at bytes 0 == 0x12) Kind (omega arith) kind_met in
-    let o = ruled_sound bytes 1 1 (nat_lt (octet_at bytes 1) size.nodes) Owner (omega arith) owner_met in
+    let owned : (two_at bytes 4 % size.nodes == byte_at bytes 1) ≡ true = eq-eqb (two_at bytes 4 % size.nodes) (byte_at bytes 1) (ap (λ (n : ℕ). n % size.nodes) h.block_is ∙ fits.owned ∙ sym h.owner_is) in
+    let block_met : (nat_lt (two_at bytes 4) size.blocks && two_at bytes 4 % size.nodes == byte_at bytes 1) ≡ true = rw (in_table, owned) in
+    let group_met : nat_lt (byte_at bytes 6) 64 ≡ true = lt-ltb _ _ (omega (arith, h.group_is, fits.in_block)) in
+    let k = ruled_sound bytes 0 1 (byte_at bytes 0 == 0x11 || byte_at bytes 0 == 0x12) Kind (omega arith) kind_met in
+    let o = ruled_sound bytes 1 1 (nat_lt (byte_at bytes 1) size.nodes) Owner (omega arith) owner_met in
     let t = ruled_sound bytes 2 2 (nat_lt 0 (two_at bytes 2)) Turn (omega arith) turn_met in
-    let b = ruled_sound bytes 4 2 (nat_lt (two_at bytes 4) size.blocks && two_at bytes 4 % size.nodes == octet_at bytes 1) Block (omega arith) block_met in
-    let g = ruled_sound bytes 6 1 (nat_lt (octet_at bytes 6) 64) Group (omega arith) group_met in
+    let b = ruled_sound bytes 4 2 (nat_lt (two_at bytes 4) size.blocks && two_at bytes 4 % size.nodes == byte_at bytes 1) Block (omega arith) block_met in
+    let g = ruled_sound bytes 6 1 (nat_lt (byte_at bytes 6) 64) Group (omega arith) group_met in
     rw (k, o, t, b, g)
 
 pairs_sound : (bytes : List ℕ) (pairs : List Pair) (at : ℕ) → Stand bytes at (flat_map pair_octets pairs) → first_fault bytes (pair_fields (length pairs) at) ≡ None
@@ -86,9 +86,9 @@ content_sound size bytes at (Served pairs) fits sized h =
     let rest = Stand-second bytes at (at + 1) (0 ∷ []) (flat_map pair_octets pairs) refl h in
     let there = h.there in
     let sound = subst (λ (n : ℕ). first_fault bytes (pair_fields n (at + 1)) ≡ None) fits (pairs_sound bytes pairs (at + 1) rest) in
-    let met : nat_lt (octet_at bytes at) 2 ≡ true = lt-ltb _ _ (omega arith) in
-    let is_served : (octet_at bytes at == 0) ≡ true = eq-eqb _ _ body in
-    rw (ruled_sound bytes at 1 (nat_lt (octet_at bytes at) 2) Body (omega arith) met, is_served) sound
+    let met : nat_lt (byte_at bytes at) 2 ≡ true = lt-ltb _ _ (omega arith) in
+    let is_served : (byte_at bytes at == 0) ≡ true = eq-eqb _ _ body in
+    rw (ruled_sound bytes at 1 (nat_lt (byte_at bytes at) 2) Body (omega arith) met, is_served) sound
 content_sound size bytes at (Fallback rows) fits sized h =
     let body = octet_read bytes at 1 (Stand-first bytes at (1 ∷ []) (length rows ∷ flat_map row_octets rows) h) in
     let counted = Stand-second bytes at (at + 1) (1 ∷ []) (length rows ∷ flat_map row_octets rows) refl h in
@@ -96,17 +96,17 @@ content_sound size bytes at (Fallback rows) fits sized h =
     let rest = Stand-second bytes (at + 1) (at + 2) (length rows ∷ []) (flat_map row_octets rows) (omega arith) counted in
     let there = counted.there in
     let go_on = rising-go_on size.nodes rows fits.rising fits.are_nodes in
-    let sound : first_fault bytes (row_fields size.nodes bytes (octet_at bytes (at + 1)) None (at + 2)) ≡ None =
+    let sound : first_fault bytes (row_fields size.nodes bytes (byte_at bytes (at + 1)) None (at + 2)) ≡ None =
     subst (λ (n : ℕ). first_fault bytes (row_fields size.nodes bytes n None (at + 2)) ≡ None) (sym count) (rows_sound size.nodes bytes rows None (at + 2) sized rest go_on) in
-    let met : nat_lt (octet_at bytes at) 2 ≡ true = lt-ltb _ _ (omega arith) in
-    let is_fallback : (octet_at bytes at == 0) ≡ false = ap (λ (n : ℕ). n == 0) body in
-    let enough : nat_le 2 (octet_at bytes (at + 1)) ≡ true = le-leb _ _ (omega (arith, fits.enough)) in
-    let few : nat_le (octet_at bytes (at + 1)) 64 ≡ true = le-leb _ _ (omega (arith, fits.few)) in
-    let count_met : (nat_le 2 (octet_at bytes (at + 1)) && nat_le (octet_at bytes (at + 1)) 64) ≡ true = rw (enough, few) in
-    let count_sound = ruled_sound bytes (at + 1) 1 (nat_le 2 (octet_at bytes (at + 1)) && nat_le (octet_at bytes (at + 1)) 64) Count (omega arith) count_met in
-    rw (ruled_sound bytes at 1 (nat_lt (octet_at bytes at) 2) Body (omega arith) met, is_fallback, count_sound) sound
+    let met : nat_lt (byte_at bytes at) 2 ≡ true = lt-ltb _ _ (omega arith) in
+    let is_fallback : (byte_at bytes at == 0) ≡ false = ap (λ (n : ℕ). n == 0) body in
+    let enough : nat_le 2 (byte_at bytes (at + 1)) ≡ true = le-leb _ _ (omega (arith, fits.enough)) in
+    let few : nat_le (byte_at bytes (at + 1)) 64 ≡ true = le-leb _ _ (omega (arith, fits.few)) in
+    let count_met : (nat_le 2 (byte_at bytes (at + 1)) && nat_le (byte_at bytes (at + 1)) 64) ≡ true = rw (enough, few) in
+    let count_sound = ruled_sound bytes (at + 1) 1 (nat_le 2 (byte_at bytes (at + 1)) && nat_le (byte_at bytes (at + 1)) 64) Count (omega arith) count_met in
+    rw (ruled_sound bytes at 1 (nat_lt (byte_at bytes at) 2) Body (omega arith) met, is_fallback, count_sound) sound
 
-put-long : (key : FlowKey) (info : Record) → length (octets key ++ four_octets info.teid ++ four_octets info.base) ≡ 21
+put-long : (key : FlowKey) (info : Record) → length (octets key ++ octets_of_word info.teid ++ octets_of_word info.base) ≡ 21
 unfolding octets
 put-long key info = refl
 
@@ -114,40 +114,40 @@ operation_sound : (bytes : List ℕ) (at : ℕ) (op : FibOp) → Stand bytes at 
 operation_sound bytes at Nothing h =
     let body = octet_read bytes at 0 h in
     let there = h.there in
-    let met : nat_lt (octet_at bytes at) 3 ≡ true = lt-ltb _ _ (omega arith) in
-    let is_nothing : (octet_at bytes at == 0) ≡ true = eq-eqb _ _ body in
-    rw (ruled_sound bytes at 1 (nat_lt (octet_at bytes at) 3) Body (omega arith) met, is_nothing)
+    let met : nat_lt (byte_at bytes at) 3 ≡ true = lt-ltb _ _ (omega arith) in
+    let is_nothing : (byte_at bytes at == 0) ≡ true = eq-eqb _ _ body in
+    rw (ruled_sound bytes at 1 (nat_lt (byte_at bytes at) 3) Body (omega arith) met, is_nothing)
 operation_sound bytes at (Put key info) h =
-    let body = octet_read bytes at 1 (Stand-first bytes at (1 ∷ []) (octets key ++ four_octets info.teid ++ four_octets info.base) h) in
+    let body = octet_read bytes at 1 (Stand-first bytes at (1 ∷ []) (octets key ++ octets_of_word info.teid ++ octets_of_word info.base) h) in
     let there = h.there in
     let long = put-long key info in
-    let met : nat_lt (octet_at bytes at) 3 ≡ true = lt-ltb _ _ (omega arith) in
-    let something : (octet_at bytes at == 0) ≡ false = ap (λ (n : ℕ). n == 0) body in
-    let is_put : (octet_at bytes at == 1) ≡ true = eq-eqb _ _ body in
-    rw (ruled_sound bytes at 1 (nat_lt (octet_at bytes at) 3) Body (omega arith) met, something, is_put, free_sound bytes (at + 1) 13 (omega arith), free_sound bytes (at + 14) 4 (omega arith), free_sound bytes (at + 18) 4 (omega arith))
+    let met : nat_lt (byte_at bytes at) 3 ≡ true = lt-ltb _ _ (omega arith) in
+    let something : (byte_at bytes at == 0) ≡ false = ap (λ (n : ℕ). n == 0) body in
+    let is_put : (byte_at bytes at == 1) ≡ true = eq-eqb _ _ body in
+    rw (ruled_sound bytes at 1 (nat_lt (byte_at bytes at) 3) Body (omega arith) met, something, is_put, free_sound bytes (at + 1) 13 (omega arith), free_sound bytes (at + 14) 4 (omega arith), free_sound bytes (at + 18) 4 (omega arith))
 operation_sound bytes at (Drop key) h =
     let body = octet_read bytes at 2 (Stand-first bytes at (2 ∷ []) (octets key) h) in
     let there = h.there in
     let long = octets-long key in
-    let met : nat_lt (octet_at bytes at) 3 ≡ true = lt-ltb _ _ (omega arith) in
-    let something : (octet_at bytes at == 0) ≡ false = ap (λ (n : ℕ). n == 0) body in
-    let no_put : (octet_at bytes at == 1) ≡ false = ap (λ (n : ℕ). n == 1) body in
-    rw (ruled_sound bytes at 1 (nat_lt (octet_at bytes at) 3) Body (omega arith) met, something, no_put, free_sound bytes (at + 1) 13 (omega arith))
+    let met : nat_lt (byte_at bytes at) 3 ≡ true = lt-ltb _ _ (omega arith) in
+    let something : (byte_at bytes at == 0) ≡ false = ap (λ (n : ℕ). n == 0) body in
+    let no_put : (byte_at bytes at == 1) ≡ false = ap (λ (n : ℕ). n == 1) body in
+    rw (ruled_sound bytes at 1 (nat_lt (byte_at bytes at) 3) Body (omega arith) met, something, no_put, free_sound bytes (at + 1) 13 (omega arith))
 
-body_fields : Size → List ℕ → List Field
-body_fields size bytes = cond (octet_at bytes 0 == 0x11) (content_fields size bytes 7) (operation_fields bytes 7)
+body_fields : Size → List ℕ → List MessageField
+body_fields size bytes = cond (byte_at bytes 0 == 0x11) (content_fields size bytes 7) (operation_fields bytes 7)
 
 pub message_sound : (size : Size) (bytes : List ℕ) (message : Message) → Fits size message → IsMessage message → Stand bytes 0 (spelling message) → first_fault bytes (fields size bytes) ≡ None
 unfolding body_fields
 message_sound size bytes (Table m) fits sized h =
     let read = head_read bytes 0x11 m.owner m.turn m.block m.group (content_octets m.content) (omega (arith, fits.0.last_turn)) (omega (arith, sized.0.block_fits)) h in
-    let is_table : (octet_at bytes 0 == 0x11) ≡ true = eq-eqb _ _ read.kind_is in
-    let body : first_fault bytes (cond (octet_at bytes 0 == 0x11) (content_fields size bytes 7) (operation_fields bytes 7)) ≡ None =
+    let is_table : (byte_at bytes 0 == 0x11) ≡ true = eq-eqb _ _ read.kind_is in
+    let body : first_fault bytes (cond (byte_at bytes 0 == 0x11) (content_fields size bytes 7) (operation_fields bytes 7)) ≡ None =
     ap (λ (b : Bool). first_fault bytes (cond b (content_fields size bytes 7) (operation_fields bytes 7))) is_table ∙ content_sound size bytes 7 m.content fits.1 sized.1 read.rest in
     first_fault-append bytes (head_fields size bytes) _ ∙ ap (λ (f : Option DecodeRefused). option_or f (first_fault bytes (body_fields size bytes))) (head_sound size bytes 0x11 m.owner m.turn m.block m.group (content_octets m.content) read fits.0 refl) ∙ body
 message_sound size bytes (Fib m) fits sized h =
     let read = head_read bytes 0x12 m.owner m.turn m.block m.group (operation_octets m.op) (omega (arith, fits.last_turn)) (omega (arith, sized.0.block_fits)) h in
-    let no_table : (octet_at bytes 0 == 0x11) ≡ false = ap (λ (n : ℕ). n == 0x11) read.kind_is in
-    let body : first_fault bytes (cond (octet_at bytes 0 == 0x11) (content_fields size bytes 7) (operation_fields bytes 7)) ≡ None =
+    let no_table : (byte_at bytes 0 == 0x11) ≡ false = ap (λ (n : ℕ). n == 0x11) read.kind_is in
+    let body : first_fault bytes (cond (byte_at bytes 0 == 0x11) (content_fields size bytes 7) (operation_fields bytes 7)) ≡ None =
     ap (λ (b : Bool). first_fault bytes (cond b (content_fields size bytes 7) (operation_fields bytes 7))) no_table ∙ operation_sound bytes 7 m.op read.rest in
     first_fault-append bytes (head_fields size bytes) _ ∙ ap (λ (f : Option DecodeRefused). option_or f (first_fault bytes (body_fields size bytes))) (head_sound size bytes 0x12 m.owner m.turn m.block m.group (operation_octets m.op) read fits refl) ∙ body

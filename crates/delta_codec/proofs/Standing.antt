@@ -7,9 +7,9 @@ use Rattle.std.proofs.lemmas.List.{take-append-drop, drop-drop, drop_at, take_at
 use Rattle.std.proofs.lemmas.Nat.{be_bytes_2, be_bytes_4, from_be_bytes-to_be_bytes_2}
 use Rattle.flow_types.specs.declared.key.FlowKey.{FlowKey}
 use Rattle.flow_types.specs.Key.{number, octets}
-use Rattle.delta_codec.specs.Values.{IsKey}
-use Rattle.delta_codec.specs.Spelling.{Stand, two_octets, four_octets}
-use Rattle.delta_codec.specs.Fields.{octet_at, two_at, key_at, number_of}
+use Rattle.delta_codec.specs.Values.{IsKeyValue}
+use Rattle.delta_codec.specs.Spelling.{Stand, two_octets, octets_of_word}
+use Rattle.delta_codec.specs.Fields.{byte_at, two_at, key_number_at, number_of}
 use Rattle.delta_codec.proofs.Keys.{octets-long, octets-number}
 
 abbrev pub AreOctets : List ℕ → Type 0
@@ -54,11 +54,11 @@ two_stand bytes taken at n fits e le n-is =
     let octets : AreOctets taken = rw e (AreOctets-take 2 (drop at bytes) (AreOctets-drop at bytes fits)) in
     taken_stands bytes (two_octets n) at 2 (be_bytes_2 taken n long octets n-is ∙ e) le
 
-pub four_stand : (bytes taken : List ℕ) (at n : ℕ) → AreOctets bytes → taken ≡ take 4 (drop at bytes) → at + 4 ≤ length bytes → n ≡ from_be_bytes w32 taken → Stand bytes at (four_octets n)
+pub four_stand : (bytes taken : List ℕ) (at n : ℕ) → AreOctets bytes → taken ≡ take 4 (drop at bytes) → at + 4 ≤ length bytes → n ≡ from_be_bytes w32 taken → Stand bytes at (octets_of_word n)
 four_stand bytes taken at n fits e le n-is =
     let long : length taken ≡ 4 = omega (arith, ap length e, length-take 4 (drop at bytes), length-drop at bytes) in
     let octets : AreOctets taken = rw e (AreOctets-take 4 (drop at bytes) (AreOctets-drop at bytes fits)) in
-    taken_stands bytes (four_octets n) at 4 (be_bytes_4 taken n long octets n-is ∙ e) le
+    taken_stands bytes (octets_of_word n) at 4 (be_bytes_4 taken n long octets n-is ∙ e) le
 
 -- ---- parts of what stands at a place
 
@@ -79,7 +79,7 @@ Stand-second bytes at next x y next-is h =
 
 -- ---- what is read where octets stand
 
-pub octet_read : (bytes : List ℕ) (at octet : ℕ) → Stand bytes at (octet ∷ []) → octet_at bytes at ≡ octet
+pub octet_read : (bytes : List ℕ) (at octet : ℕ) → Stand bytes at (octet ∷ []) → byte_at bytes at ≡ octet
 octet_read bytes at octet h =
     let same : at + 0 ≡ at = omega arith in
     ap (λ (n : ℕ). get_or bytes n 0) (sym same) ∙ sym (get_or-drop at bytes 0 0) ∙ sym (get_or-take 1 (drop at bytes) 0 0 (omega arith)) ∙ ap (λ (t : List ℕ). get_or t 0 0) h.same
@@ -87,6 +87,6 @@ octet_read bytes at octet h =
 pub two_read : (bytes : List ℕ) (at n : ℕ) → n < 2 ^ 16 → Stand bytes at (two_octets n) → two_at bytes at ≡ n
 two_read bytes at n low h = ap (from_be_bytes w16) h.same ∙ from_be_bytes-to_be_bytes_2 n low
 
-pub key_read : (bytes : List ℕ) (at : ℕ) (key : FlowKey) → IsKey key → Stand bytes at (octets key) → key_at bytes at ≡ number key
+pub key_read : (bytes : List ℕ) (at : ℕ) (key : FlowKey) → IsKeyValue key → Stand bytes at (octets key) → key_number_at bytes at ≡ number key
 key_read bytes at key sized h =
     ap number_of (ap (λ (n : ℕ). take n (drop at bytes)) (sym (octets-long key)) ∙ h.same) ∙ octets-number key sized

@@ -19,8 +19,8 @@ abbrev pub two_octets : ℕ → List ℕ
 two_octets n = to_be_bytes w16 n
 
 -- a number in four octets, the greatest first
-abbrev pub four_octets : ℕ → List ℕ
-four_octets n = to_be_bytes w32 n
+abbrev pub octets_of_word : ℕ → List ℕ
+octets_of_word n = to_be_bytes w32 n
 
 -- the fields that each message begins with
 abbrev pub head : (kind owner turn block group : ℕ) → List ℕ
@@ -42,7 +42,7 @@ content_octets (Fallback rows) = 1 ∷ length rows ∷ flat_map row_octets rows
 -- a FIB's change: 0; 1, a key, a TEID and a base; or 2 and a key
 abbrev pub operation_octets : FibOp → List ℕ
 operation_octets Nothing = 0 ∷ []
-operation_octets (Put key info) = 1 ∷ octets key ++ four_octets info.teid ++ four_octets info.base
+operation_octets (Put key info) = 1 ∷ octets key ++ octets_of_word info.teid ++ octets_of_word info.base
 operation_octets (Drop key) = 2 ∷ octets key
 
 -- the octets of the message's fields, one after the other

@@ -12,7 +12,7 @@ use Rattle.delta_codec.specs.declared.message.Message.{Message}
 use Rattle.delta_codec.specs.declared.message.Message.TheVariants.{Table, Fib}
 
 -- addresses have 32 bits, ports 16, and a protocol 8
-pub record IsKey (key : FlowKey) : Type 0 where
+pub record IsKeyValue (key : FlowKey) : Type 0 where
   pub source : key.source < 2 ^ 32
   pub destination : key.destination < 2 ^ 32
   pub source_port : key.source_port < 2 ^ 16
@@ -27,13 +27,13 @@ pub record IsInfo (info : Record) : Type 0 where
 -- the numbers of a record
 abbrev pub IsContent : GroupRecord → Type 0
 IsContent (Served pairs) = All IsPair pairs
-IsContent (Fallback rows) = All (λ (row : Row). IsKey row.key) rows
+IsContent (Fallback rows) = All (λ (row : Row). IsKeyValue row.key) rows
 
 -- the numbers of a FIB's change
 abbrev pub IsOperation : FibOp → Type 0
 IsOperation Nothing = ⊤
-IsOperation (Put key info) = IsKey key × IsInfo info
-IsOperation (Drop key) = IsKey key
+IsOperation (Put key info) = IsKeyValue key × IsInfo info
+IsOperation (Drop key) = IsKeyValue key
 
 -- an owner and a group have 8 bits, a turn 32 and a block 16
 pub record IsHead (owner turn block group : ℕ) : Type 0 where

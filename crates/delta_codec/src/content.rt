@@ -6,10 +6,10 @@ ghost use Rattle.std.specs.Result.{result_err};
 ghost use Rattle.flow_types.specs.Key.{number};
 ghost use Rattle.flow_types.specs.Size.{value_bits};
 ghost use Rattle.group_search.specs.Words.{IsPair};
-ghost use Rattle.delta_codec.specs.Values.{IsContent, IsKey};
+ghost use Rattle.delta_codec.specs.Values.{IsContent, IsKeyValue};
 ghost use Rattle.delta_codec.specs.Fits.{ContentFits, RowsFit};
 ghost use Rattle.delta_codec.specs.Spelling.{Stand, content_octets, pair_octets, row_octets};
-ghost use Rattle.delta_codec.specs.Fields.{content_fields, count_field, fault_of, first_fault, key_at, octet_at, pair_fields, row_fields};
+ghost use Rattle.delta_codec.specs.Fields.{content_fields, count_field, field_fault, first_fault, key_number_at, byte_at, pair_fields, row_fields};
 ghost use Rattle.delta_codec.specs.Fields as fields;
 
 use crate::reading::{take_key, take_octet, take_two};
@@ -81,11 +81,11 @@ fn read_pair(bytes: &[u8], at: usize) -> Result<Pair, DecodeRefused>
 /// The number of rows.
 fn read_count(bytes: &[u8], at: usize) -> Result<u8, DecodeRefused>
     requires { at ≤ length bytes.now }
-    ensures value { IfOk result (λ count. count ≡ octet_at bytes.now at) }
+    ensures value { IfOk result (λ count. count ≡ byte_at bytes.now at) }
     ensures stands { IfOk result (λ count. Stand bytes.now at (count ∷ [])) }
     ensures enough { IfOk result (λ count. 2 ≤ count) }
     ensures few { IfOk result (λ count. count ≤ 64) }
-    ensures fault { result_err result ≡ fault_of bytes.now (count_field bytes.now at) }
+    ensures fault { result_err result ≡ field_fault bytes.now (count_field bytes.now at) }
 {
     let count = take_octet(bytes, at)?;
     if count < 2 || count > 64 {
@@ -111,7 +111,7 @@ fn read_rows(
     ensures end { IfOk result (λ read. read.1 ≡ at + 14 * length read.0) }
     ensures counted { IfOk result (λ read. length read.0 ≡ count) }
     ensures fits { IfOk result (λ read. RowsFit shape.nodes read.0) }
-    ensures sized { IfOk result (λ read. All (λ row. IsKey row.key) read.0) }
+    ensures sized { IfOk result (λ read. All (λ row. IsKeyValue row.key) read.0) }
     ensures fault { result_err result ≡ first_fault bytes.now (row_fields shape.nodes bytes.now count None at) }
 {
     let (rows, end) = gather_rows(shape, count, bytes, at)?;
@@ -133,7 +133,7 @@ fn gather_rows(
     ensures stands { IfOk result (λ read. Stand bytes.now at (flat_map row_octets read.0.items)) }
     ensures end { IfOk result (λ read. read.1 ≡ at + 14 * length read.0.items) }
     ensures counted { IfOk result (λ read. length read.0.items ≡ count) }
-    ensures sized { IfOk result (λ read. All (λ row. IsKey row.key) read.0.items) }
+    ensures sized { IfOk result (λ read. All (λ row. IsKeyValue row.key) read.0.items) }
     ensures fault { result_err result ≡ first_fault bytes.now (row_fields shape.nodes bytes.now count None at) }
 {
     let mut rows = ArrayVec::new();
@@ -156,9 +156,9 @@ fn read_row(
     at: usize,
 ) -> Result<Row, DecodeRefused>
     requires { at ≤ length bytes.now }
-    ensures value { IfOk result (λ row. number row.key ≡ key_at bytes.now at) }
+    ensures value { IfOk result (λ row. number row.key ≡ key_number_at bytes.now at) }
     ensures stands { IfOk result (λ row. Stand bytes.now at (row_octets row)) }
-    ensures sized { IfOk result (λ row. IsKey row.key) }
+    ensures sized { IfOk result (λ row. IsKeyValue row.key) }
     ensures fault { result_err result ≡ first_fault bytes.now (row_fields shape.nodes bytes.now 1 (option_map number before) at) }
 {
     let key = take_key(bytes, at)?;

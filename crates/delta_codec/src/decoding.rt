@@ -6,7 +6,7 @@ ghost use Rattle.delta_codec.specs.declared.refused.DecodeRefused.TheVariants.{B
 ghost use Rattle.delta_codec.specs.Values.{IsMessage};
 ghost use Rattle.delta_codec.specs.Spelling.{BeginsWith};
 ghost use Rattle.delta_codec.specs.Fields.{fields, first_fault};
-ghost use Rattle.delta_codec.specs.Refusals.{IsCutShort, IsFirstBad};
+ghost use Rattle.delta_codec.specs.Refusals.{IsCutShort, IsFirstBroken};
 
 use crate::content::read_content;
 use crate::heading::{BODY, Kind, read_head};
@@ -23,7 +23,7 @@ pub fn decode(shape: Shape, bytes: &[u8]) -> Result<(Message, usize), DecodeRefu
     ensures spelled { IfOk result (λ read. BeginsWith shape bytes.now read.0 read.1) }
     // No other message begins the octets.
     ensures only { (message : Message) (used : ℕ) → IsMessage message → BeginsWith shape bytes.now message used → result ≡ Ok (message, used) }
-    ensures bad { (at : ℕ) (why : BadField) → IsErrOf result (Bad at why) ↔ IsFirstBad bytes.now (fields shape bytes.now) at why }
+    ensures bad { (at : ℕ) (why : BadField) → IsErrOf result (Bad at why) ↔ IsFirstBroken bytes.now (fields shape bytes.now) at why }
     ensures short { IsErrOf result Short ↔ IsCutShort bytes.now (fields shape bytes.now) }
 {
     read_message(shape, bytes)

@@ -3,9 +3,9 @@
 ghost use Rattle.std.specs.Prelude.{◌≡◌, ◌+◌, ◌≤◌, [], ◌∷◌, IfOk, length, take, drop};
 ghost use Rattle.std.specs.Result.{result_err};
 ghost use Rattle.flow_types.specs.Key.{number, octets};
-ghost use Rattle.delta_codec.specs.Spelling.{Stand, four_octets, two_octets};
-ghost use Rattle.delta_codec.specs.Fields.{key_at, missing, octet_at, two_at};
-ghost use Rattle.delta_codec.specs.Values.{IsKey};
+ghost use Rattle.delta_codec.specs.Spelling.{Stand, octets_of_word, two_octets};
+ghost use Rattle.delta_codec.specs.Fields.{key_number_at, missing, byte_at, two_at};
+ghost use Rattle.delta_codec.specs.Values.{IsKeyValue};
 
 use crate::refused::DecodeRefused;
 use flow_types::FlowKey;
@@ -22,7 +22,7 @@ fn take_octets<const N: usize>(bytes: &[u8], at: usize) -> Result<&[u8; N], Deco
 /// The octet at a place.
 pub(crate) fn take_octet(bytes: &[u8], at: usize) -> Result<u8, DecodeRefused>
     requires { at ≤ length bytes.now }
-    ensures value { IfOk result (λ octet. octet ≡ octet_at bytes.now at) }
+    ensures value { IfOk result (λ octet. octet ≡ byte_at bytes.now at) }
     ensures stands { IfOk result (λ octet. Stand bytes.now at (octet ∷ [])) }
     ensures fault { result_err result ≡ missing bytes.now at 1 }
 {
@@ -43,7 +43,7 @@ pub(crate) fn take_two(bytes: &[u8], at: usize) -> Result<u16, DecodeRefused>
 /// The number in four octets.
 pub(crate) fn take_four(bytes: &[u8], at: usize) -> Result<u32, DecodeRefused>
     requires { at ≤ length bytes.now }
-    ensures stands { IfOk result (λ number. Stand bytes.now at (four_octets number)) }
+    ensures stands { IfOk result (λ number. Stand bytes.now at (octets_of_word number)) }
     ensures fault { result_err result ≡ missing bytes.now at 4 }
 {
     let octets = take_octets(bytes, at)?;
@@ -53,9 +53,9 @@ pub(crate) fn take_four(bytes: &[u8], at: usize) -> Result<u32, DecodeRefused>
 /// The key in 13 octets.
 pub(crate) fn take_key(bytes: &[u8], at: usize) -> Result<FlowKey, DecodeRefused>
     requires { at ≤ length bytes.now }
-    ensures value { IfOk result (λ key. number key ≡ key_at bytes.now at) }
+    ensures value { IfOk result (λ key. number key ≡ key_number_at bytes.now at) }
     ensures stands { IfOk result (λ key. Stand bytes.now at (octets key)) }
-    ensures sized { IfOk result IsKey }
+    ensures sized { IfOk result IsKeyValue }
     ensures fault { result_err result ≡ missing bytes.now at 13 }
 {
     let octets = take_octets(bytes, at)?;

@@ -7,8 +7,8 @@ use Rattle.group_search.specs.declared.rows.Row.{Row}
 use Rattle.group_search.specs.Home.{Home}
 use Rattle.group_search.specs.RowWords.{SpellsRow}
 use Rattle.group_search.proofs.RowWordLemmas.{group_above}
-use Rattle.group_cell.specs.Layout.{home_at, low_word, high_word, sequence_word, data_word, low, high, place_words, sequence, datum, tag}
-use Rattle.group_cell.specs.Rule.{RowsStand, Holds, rows_of}
+use Rattle.group_cell.specs.Layout.{home_of_word, low_word, high_word, sequence_word, data_word, low, high, place_words, sequence, datum, tag}
+use Rattle.group_cell.specs.Rule.{RowsStand, Holds, rows_placed}
 use Rattle.group_cell.specs.Changes.{SameGroup, Untouched}
 use Rattle.group_cell.proofs.Versions.{one_home}
 
@@ -35,14 +35,14 @@ module _ (at : Home) (words words' : List ℕ) (same : SameGroup at words words'
   holds_on bits content h = record {
     data_words = λ j two. same.data_words j two ∙ h.data_words j two;
     packs = h.packs;
-    rows = rows_on (rows_of content) h.rows;
+    rows = rows_on (rows_placed content) h.rows;
     sound = h.sound;
   }
 
 -- a word of a group stands above its block's places, and apart from the words of other groups
 module _ (at : Home) (few : at.group < 64) where
-  pub home_back : home_at (sequence_word at) ≡ at
-  home_back = one_home (home_at (sequence_word at)) at (omega arith) (omega arith)
+  pub home_back : home_of_word (sequence_word at) ≡ at
+  home_back = one_home (home_of_word (sequence_word at)) at (omega arith) (omega arith)
 
   module _ (words : List ℕ) (i n : ℕ) (own : i < 3) where
     abbrev after : List ℕ
@@ -151,6 +151,6 @@ pub holds_at : (bits : ℕ) (ws ws' : List ℕ) (at at' : Home) (content : Group
 holds_at bits ws ws' at at' content group data_words places h = record {
   data_words = λ j two. data_words j two ∙ h.data_words j two;
   packs = h.packs;
-  rows = rows_at ws ws' at at' group places (rows_of content) h.rows;
+  rows = rows_at ws ws' at at' group places (rows_placed content) h.rows;
   sound = h.sound;
 }

@@ -14,8 +14,8 @@ use Rattle.group_cell.specs.declared.view.ReaderView.{ReaderView}
 use Rattle.group_cell.specs.declared.view.View.{View}
 use Rattle.group_cell.specs.declared.view.View.TheVariants.{Writer, Reader, Spent}
 use Rattle.group_cell.specs.Opening.{Opened}
-use Rattle.group_cell.specs.Layout.{address, home, home_at, high, high_word, low_word, data_word, sequence_word, sequence, tag}
-use Rattle.group_cell.specs.Rule.{IsIn, Holds, bits_of, Stands, Sees, Knows, Kept}
+use Rattle.group_cell.specs.Layout.{address, home_of, home_of_word, high, high_word, low_word, data_word, sequence_word, sequence, tag}
+use Rattle.group_cell.specs.Rule.{IsIn, Holds, bits_of, Stands, Sees, AgreesWith, Kept}
 use Rattle.group_cell.specs.Plays.{writer_view, reader_view, IsWriter, IsReader, begun, stored, ended, looking, loaded, load, looked, Asks, Begins, Stores, Ends, StartsLook, Loads, EndsLook}
 use Rattle.group_cell.specs.Changes.{Untouched}
 use Rattle.group_cell.proofs.Groups.{IsOwn, home_back, own_word, low_of_free, high_of_own, sequence_above_low, sequence_above_high}
@@ -35,7 +35,7 @@ pub reader-ne-writer : (r : ReaderView) (w : WriterView) → some (Reader r) ≡
 reader-ne-writer r w e = subst Reads (some-injective (Reader r) (Writer w) e) tt
 
 -- what another seat knows stays so
-pub others_know : (w w' : WriterView) (writer j : ℕ) → j ≢ writer → Moves w w' → (v : View) → Knows w writer j v → Knows w' writer j v
+pub others_know : (w w' : WriterView) (writer j : ℕ) → j ≢ writer → Moves w w' → (v : View) → AgreesWith w writer j v → AgreesWith w' writer j v
 others_know w w' writer j other m (Writer u) k = absurd (other k.0)
 others_know w w' writer j other m (Reader r) k = sees_on w w' r m k
 others_know w w' writer j other m Spent k = tt
@@ -55,10 +55,10 @@ module _ {S : Type 0} (key : Opened) where
       → Allows Rule slots id me i f (Made me i w')
   writer_steps slots id me i n f w' is asked s k _ at _ =
       let w : WriterView = writer_view me.0 in
-      let known : (id ≡ k.writer) × (w ≡ k.view) = subst (Knows k.view k.writer id) is (k.each_seat id me.0 at) in
+      let known : (id ≡ k.writer) × (w ≡ k.view) = subst (AgreesWith k.view k.writer id) is (k.each_seat id me.0 at) in
       let stands : Stands w = subst Stands (sym known.1) k.stands in
-      let opened : w.opening ≡ key = ap (λ u. u.opening) known.1 ∙ k.opened in
-      let t = asked stands opened in
+      let opened_with : w.opening ≡ key = ap (λ u. u.opening) known.1 ∙ k.opened in
+      let t = asked stands opened_with in
       let same : s.words ≡ w.words = k.words ∙ ap (λ u. u.words) (sym known.1) in
       let found : get_or s.words i 0 ≡ get_or w.words i 0 = ap (λ l. get_or l i 0) same in (
         Writer w',
@@ -69,10 +69,10 @@ module _ {S : Type 0} (key : Opened) where
           view = w';
           seat = at_changed s.views id me.0 (Writer w') at;
           words = ap (λ (x : ℕ). set s.words i (f x)) found ∙ (ap (λ (x : ℕ). set s.words i x) t.0 ∙ (ap (λ l. set l i n) same ∙ sym t.1));
-          opened = t.2.opening ∙ opened;
+          opened_with = t.2.opening ∙ opened_with;
           stands = t.3;
-          each_seat = λ j v e. ⊎_elim (λ (h : (j ≡ id) × (Writer w' ≡ v)). subst (Knows w' id j) h.1 (h.0, refl))
-              (λ (h : (j ≢ id) × (get_elem? s.views j ≡ some v)). others_know w w' id j h.0 t.2 v (subst (λ (x : ℕ × WriterView). Knows x.1 x.0 j v) (λ l. (sym known.0 l, sym known.1 l)) (k.each_seat j v h.1)))
+          each_seat = λ j v e. ⊎_elim (λ (h : (j ≡ id) × (Writer w' ≡ v)). subst (AgreesWith w' id j) h.1 (h.0, refl))
+              (λ (h : (j ≢ id) × (get_elem? s.views j ≡ some v)). others_know w w' id j h.0 t.2 v (subst (λ (x : ℕ × WriterView). AgreesWith x.1 x.0 j v) (λ l. (sym known.0 l, sym known.1 l)) (k.each_seat j v h.1)))
               (at_set s.views id j (Writer w') v e);
         },
         (refl, found, stands),
@@ -84,7 +84,7 @@ module _ {S : Type 0} (key : Opened) where
       → Allows Rule slots id me i (λ x. x) then
   reader_steps slots id me i then is asked s k _ at _ =
       let r : ReaderView = reader_view me.0 in let w : WriterView = k.view in
-      let known : Sees w r = subst (Knows w k.writer id) is (k.each_seat id me.0 at) in
+      let known : Sees w r = subst (AgreesWith w k.writer id) is (k.each_seat id me.0 at) in
       let t = asked w k.stands k.opened known in
       let apart : k.writer ≢ id = λ e. reader-ne-writer r w (ap some (sym is) ∙ (sym at ∙ (ap (get_elem? s.views) (sym e) ∙ k.seat))) in (
         Reader t.0,
@@ -95,9 +95,9 @@ module _ {S : Type 0} (key : Opened) where
           view = w;
           seat = set_else s.views id k.writer (Reader t.0) apart ∙ k.seat;
           words = set-get_or s.words i 0 ∙ k.words;
-          opened = k.opened;
+          opened_with = k.opened;
           stands = k.stands;
-          each_seat = λ j v e. ⊎_elim (λ (h : (j ≡ id) × (Reader t.0 ≡ v)). subst (Knows w k.writer j) h.1 t.1) (λ (h : (j ≢ id) × (get_elem? s.views j ≡ some v)). k.each_seat j v h.1)
+          each_seat = λ j v e. ⊎_elim (λ (h : (j ≡ id) × (Reader t.0 ≡ v)). subst (AgreesWith w k.writer j) h.1 t.1) (λ (h : (j ≢ id) × (get_elem? s.views j ≡ some v)). k.each_seat j v h.1)
               (at_set s.views id j (Reader t.0) v e);
         },
         subst (λ (x : ℕ). then x (Reader t.0, me.1)) (ap (λ l. get_or l i 0) (sym k.words)) t.2,
@@ -122,7 +122,7 @@ module _ {S : Type 0} (key : Opened) where
       pub begins : (word odd : ℕ) → w.writing ≡ None → word ≡ sequence_word at → odd ≡ sequence w.words at + 1 → Allows Rule slots id me word (λ _. odd) (λ _. Begins (step slots word odd 0 none) me odd)
       begins word odd idle here up =
           weaken slots id me word (λ _. odd) (Made me word (begun at odd w)) (λ _. Begins (step slots word odd 0 none) me odd)
-          (λ x m h. h.0 ∙ (let back : at ≡ home_at word = sym (ap home_at here ∙ home_back at inside.group) in λ l. (Writer (begun (back l) odd w), me.1)))
+          (λ x m h. h.0 ∙ (let back : at ≡ home_of_word word = sym (ap home_of_word here ∙ home_back at inside.group) in λ l. (Writer (begun (back l) odd w), me.1)))
           (writer_steps slots id me word odd (λ _. odd) (begun at odd w) is
           (λ s e. let in_w = in_view e in (refl, ap (λ (k : ℕ). set w.words k odd) (sym here), begins_moves w at in_w s odd up, begins_stands w at in_w s odd up idle)))
 
@@ -130,7 +130,7 @@ module _ {S : Type 0} (key : Opened) where
           → (w.opening ≡ key → Holds (bits_of w.opening) w.words at content) → Allows Rule slots id me word (λ _. even) (λ _. Ends content (step slots word even 0 none) me even)
       ends_writing content word even writing here up room holds =
           weaken slots id me word (λ _. even) (Made me word (ended at content even w)) (λ _. Ends content (step slots word even 0 none) me even)
-          (λ x m h. h.0 ∙ (let back : at ≡ home_at word = sym (ap home_at here ∙ home_back at inside.group) in λ l. (Writer (ended (back l) content even w), me.1)))
+          (λ x m h. h.0 ∙ (let back : at ≡ home_of_word word = sym (ap home_of_word here ∙ home_back at inside.group) in λ l. (Writer (ended (back l) content even w), me.1)))
           (writer_steps slots id me word even (λ _. even) (ended at content even w) is
           (λ s e. let in_w = in_view e in (refl, ap (λ (k : ℕ). set w.words k even) (sym here), ends_moves w at in_w s content even up, ends_stands w at in_w s content even up writing room (holds e))))
 
@@ -177,10 +177,10 @@ module _ {S : Type 0} (key : Opened) where
     pub starts_look : (at : Home) (word : ℕ) → IsIn key at → word ≡ sequence_word at → Allows Rule slots id me word (λ x. x) (StartsLook (step slots word 0 0 none) me)
     starts_look at word inside here = reader_steps slots id me word (StartsLook (step slots word 0 0 none) me) is
         (λ w s e k. let in_w : IsIn w.opening at = subst (λ (o : Opened). IsIn o at) (sym e) inside in
-        let back : at ≡ home_at word = sym (ap home_at here ∙ home_back at inside.group) in
+        let back : at ≡ home_of_word word = sym (ap home_of_word here ∙ home_back at inside.group) in
         let half = halves w s at in_w in
         let found : sequence w.words at ≡ get_or w.words word 0 = ap (λ (i : ℕ). get_or w.words i 0) (sym here) in (
-          looking (home_at word) (get_or w.words word 0) w.published r,
+          looking (home_of_word word) (get_or w.words word 0) w.published r,
           subst (λ (x : Home × ℕ). Sees w (looking x.0 x.1 w.published r)) (λ l. (back l, found l)) (starts w r s k at in_w),
           (w.published, k.seen, ap (count w.published) (sym back) ∙ (half.0 ∙ ap (λ (n : ℕ). n / 2) found), subst (λ (n : ℕ). n < 2 ^ 33) found half.1, refl),
         ))
@@ -189,16 +189,16 @@ module _ {S : Type 0} (key : Opened) where
     loads_word l word last alone = reader_steps slots id me word (Loads (step slots word 0 0 none) me) is
         (λ w s e k. (loaded (load word (get_or w.words word 0)) r, loads w r s k l word last alone, refl))
 
-    pub ends_look : (l : Sight) (word : ℕ) → r.last ≡ Some l → word ≡ sequence_word (home l.at) → Allows Rule slots id me word (λ x. x) (EndsLook (step slots word 0 0 none) me)
+    pub ends_look : (l : Sight) (word : ℕ) → r.last ≡ Some l → word ≡ sequence_word (home_of l.at) → Allows Rule slots id me word (λ x. x) (EndsLook (step slots word 0 0 none) me)
     ends_look l word last here = reader_steps slots id me word (EndsLook (step slots word 0 0 none) me) is
-        (λ w s e k. let found : get_or w.words word 0 ≡ sequence w.words (home l.at) = ap (λ (i : ℕ). get_or w.words i 0) here in (
+        (λ w s e k. let found : get_or w.words word 0 ≡ sequence w.words (home_of l.at) = ap (λ (i : ℕ). get_or w.words i 0) here in (
           looked (get_or w.words word 0) r,
           subst (λ (n : ℕ). Sees w (looked n r)) (sym found) (ends w r s k l last),
           (
             refl,
             λ l' last' even again.
                 let same : l ≡ l' = ap (the l) (sym last ∙ last') in
-                let now : sequence w.words (home l'.at) ≡ l'.first = ap (λ (q : Sight). sequence w.words (home q.at)) (sym same) ∙ (sym found ∙ again) in
+                let now : sequence w.words (home_of l'.at) ≡ l'.first = ap (λ (q : Sight). sequence w.words (home_of q.at)) (sym same) ∙ (sym found ∙ again) in
                 reads_whole w r s k l' last' even now,
           ),
         ))

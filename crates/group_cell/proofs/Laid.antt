@@ -1,4 +1,4 @@
--- The words of a table before it is opened.
+-- The words of a table before it is opened_with.
 use Rattle.std.proofs.Common.{◌≡◌, ℕ, zero, suc, ◌+◌, ◌-◌, ◌*◌, ◌<◌, ◌≤◌, ◌≢◌, List, [], ◌∷◌, ◌++◌, length, get_or, set, replicate, refl, sym, ap, ◌∙◌, subst, arith, cond, eqb, length-set, length-append, get_or-set_other, get_or-set_same, inl, inr}
 use Rattle.std.proofs.lemmas.List.Folds.{sum_by-replicate}
 use Rattle.std.proofs.lemmas.List.{get_or-append_right}
@@ -17,7 +17,7 @@ use Rattle.group_search.specs.Words.{HasBits, PacksTo, packed_of, words_of}
 use Rattle.group_cell.specs.Changes.{Untouched}
 use Rattle.group_cell.specs.Laying.{AreLaid, IsBare, IsBlockLaid, IsLaid, LeavesOthers, in_front}
 use Rattle.group_cell.specs.Layout.{low_word, high_word, data_word, sequence_word, high, sequence, datum, tag}
-use Rattle.group_cell.specs.Rule.{IsSound, RowsStand, rows_of}
+use Rattle.group_cell.specs.Rule.{IsSoundRecord, RowsStand, rows_placed}
 use Rattle.group_cell.specs.Seating.{AreOwners, places_of}
 use Rattle.group_cell.proofs.Versions.{one_home}
 use Rattle.group_cell.proofs.Groups.{holds_at, holds_on, high_of_own, low_of_free, own_word, rows_at, rows_on, sequence_above_high, sequence_above_low, untouched-self, untouched-trans}
@@ -84,13 +84,13 @@ module _ (words owners : List ℕ) (g a b i j : ℕ) (few : g < 64) (at_i : i �
   data_owners o = owners_on owners words (set (set words i a) j b) 0 (length-set (set words i a) j b ∙ length-set words i a) (λ k less. else_is (high_word 0 k) (λ e. omega arith) (λ e. omega arith)) o
 
   pub group_laid : (content : GroupRecord) (packed : List ℕ) → a ≡ get_or packed 0 0 → b ≡ get_or packed 1 0 → packed ≡ words_of content → ((bits : ℕ) → HasBits bits content → PacksTo bits (packed_of content) packed)
-      → IsSound content → RowsStand words (in_front g) (rows_of content) → sequence words (in_front g) ≡ 0 → places_of (g + 1) owners ≡ rows_in content → IsLaid (set (set words i a) j b) owners (in_front g) content
+      → IsSoundRecord content → RowsStand words (in_front g) (rows_placed content) → sequence words (in_front g) ≡ 0 → places_of (g + 1) owners ≡ rows_in content → IsLaid (set (set words i a) j b) owners (in_front g) content
   group_laid content packed a_is b_is packed_is packs sound rows version counted = record {
     version = else_is (sequence_word (in_front g)) (λ e. omega arith) (λ e. omega arith) ∙ version;
     holds = λ bits has. record {
       data_words = two_words;
       packs = subst (PacksTo bits (packed_of content)) packed_is (packs bits has);
-      rows = rows_at words (set (set words i a) j b) (in_front g) (in_front g) refl (λ k less. (else_is (high_word 0 k) (λ e. omega arith) (λ e. omega arith), else_is (low_word 0 k) (λ e. omega arith) (λ e. omega arith))) (rows_of content) rows;
+      rows = rows_at words (set (set words i a) j b) (in_front g) (in_front g) refl (λ k less. (else_is (high_word 0 k) (λ e. omega arith) (λ e. omega arith), else_is (low_word 0 k) (λ e. omega arith) (λ e. omega arith))) (rows_placed content) rows;
       sound = sound;
     };
     counted = counted;

@@ -12,7 +12,7 @@ use Rattle.group_cell.specs.declared.view.ReaderView.{ReaderView}
 use Rattle.group_cell.specs.declared.view.View.{View}
 use Rattle.group_cell.specs.declared.view.View.TheVariants.{Writer, Reader, Spent}
 use Rattle.group_cell.specs.Opening.{Opened}
-use Rattle.group_cell.specs.Rule.{AllIn, Stands, Sees, Knows, Kept}
+use Rattle.group_cell.specs.Rule.{AllIn, Stands, Sees, AgreesWith, Kept}
 use Rattle.group_cell.specs.Plays.{writer_view, reader_view, IsWriter, IsReader, new_reader, longer, kept_by, given_by, has_heard, has_met, met_by}
 use Rattle.group_cell.proofs.Versions.{extends-self, extends-trans, extends-longer, extends-whole}
 use Rattle.group_cell.proofs.Writing.{Moves, stays_put}
@@ -84,16 +84,16 @@ module _ {S : Type 0} (key : Opened) where
 
   module _ (s : State S View) (k : Rule s) (id : ℕ) where
     -- a view other than the writer's changes
-    abbrev changes : (r : ReaderView) (v' : View) → get_elem? s.views id ≡ some (Reader r) → Knows k.view k.writer id v' → Rule (with_views s (set s.views id v'))
+    abbrev changes : (r : ReaderView) (v' : View) → get_elem? s.views id ≡ some (Reader r) → AgreesWith k.view k.writer id v' → Rule (with_views s (set s.views id v'))
     changes r v' at knows =
         let apart : k.writer ≢ id = λ e. reader-ne-writer r k.view (sym at ∙ (ap (get_elem? s.views) (sym e) ∙ k.seat)) in record {
           writer = k.writer;
           view = k.view;
           seat = set_else s.views id k.writer v' apart ∙ k.seat;
           words = k.words;
-          opened = k.opened;
+          opened_with = k.opened;
           stands = k.stands;
-          each_seat = λ j v e. ⊎_elim (λ (h : (j ≡ id) × (v' ≡ v)). subst (λ (x : ℕ × View). Knows k.view k.writer x.0 x.1) (λ l. (sym h.0 l, h.1 l)) knows)
+          each_seat = λ j v e. ⊎_elim (λ (h : (j ≡ id) × (v' ≡ v)). subst (λ (x : ℕ × View). AgreesWith k.view k.writer x.0 x.1) (λ l. (sym h.0 l, h.1 l)) knows)
               (λ (h : (j ≢ id) × (get_elem? s.views j ≡ some v)). k.each_seat j v h.1)
               (at_set s.views id j v' v e);
         }
@@ -106,10 +106,10 @@ module _ {S : Type 0} (key : Opened) where
           view = w';
           seat = at_changed s.views id (Writer w) (Writer w') at;
           words = k.words ∙ (ap (λ u. u.words) (sym known.1) ∙ sym same);
-          opened = moves.opening ∙ (ap (λ u. u.opening) known.1 ∙ k.opened);
+          opened_with = moves.opening ∙ (ap (λ u. u.opening) known.1 ∙ k.opened);
           stands = stands;
-          each_seat = λ j v e. ⊎_elim (λ (h : (j ≡ id) × (Writer w' ≡ v)). subst (Knows w' id j) h.1 (h.0, refl))
-              (λ (h : (j ≢ id) × (get_elem? s.views j ≡ some v)). others_know w w' id j h.0 moves v (subst (λ (x : ℕ × WriterView). Knows x.1 x.0 j v) (λ l. (sym known.0 l, sym known.1 l)) (k.each_seat j v h.1)))
+          each_seat = λ j v e. ⊎_elim (λ (h : (j ≡ id) × (Writer w' ≡ v)). subst (AgreesWith w' id j) h.1 (h.0, refl))
+              (λ (h : (j ≢ id) × (get_elem? s.views j ≡ some v)). others_know w w' id j h.0 moves v (subst (λ (x : ℕ × WriterView). AgreesWith x.1 x.0 j v) (λ l. (sym known.0 l, sym known.1 l)) (k.each_seat j v h.1)))
               (at_set s.views id j (Writer w') v e);
         }
 
@@ -120,9 +120,9 @@ module _ {S : Type 0} (key : Opened) where
     view = k.view;
     seat = at_longer s.views (Reader r ∷ []) k.writer (Writer k.view) k.seat;
     words = k.words;
-    opened = k.opened;
+    opened_with = k.opened;
     stands = k.stands;
-    each_seat = λ j v e. ⊎_elim (k.each_seat j v) (λ (h : Reader r ≡ v). subst (Knows k.view k.writer j) h sees) (at_snoc s.views (Reader r) v j e);
+    each_seat = λ j v e. ⊎_elim (k.each_seat j v) (λ (h : Reader r ≡ v). subst (AgreesWith k.view k.writer j) h sees) (at_snoc s.views (Reader r) v j e);
   }
 
   pub splits_reader : (id : ℕ) (v : View) → IsReader v → Splits Rule id v (kept_by v) (given_by v)

@@ -15,7 +15,7 @@ use Rattle.group_cell.specs.declared.view.View.TheVariants.{Writer}
 use Rattle.group_cell.specs.declared.view.WriterView.{WriterView}
 use Rattle.group_cell.specs.Opening.{Opened}
 use Rattle.group_cell.specs.Laying.{AreLaid}
-use Rattle.group_cell.specs.Rule.{IsIn, Stands, Knows, Kept, bits_of}
+use Rattle.group_cell.specs.Rule.{IsIn, Stands, AgreesWith, Kept, bits_of}
 use Rattle.group_cell.specs.Plays.{first_writer, first_view}
 use Rattle.group_cell.specs.Seating.{Tallies}
 
@@ -48,11 +48,11 @@ opens S o owners t all = let w = first_writer o in record {
   view = w;
   seat = refl;
   words = refl;
-  opened = refl;
+  opened_with = refl;
   stands = first_stands o owners t all;
   each_seat = alone w;
 }
   where
-    alone : (w : WriterView) (j : ℕ) (v : View) → get_elem? (Writer w ∷ []) j ≡ some v → Knows w 0 j v
-    alone w zero v e = subst (Knows w 0 0) (some-injective (Writer w) v e) (refl, refl)
+    alone : (w : WriterView) (j : ℕ) (v : View) → get_elem? (Writer w ∷ []) j ≡ some v → AgreesWith w 0 j v
+    alone w zero v e = subst (AgreesWith w 0 0) (some-injective (Writer w) v e) (refl, refl)
     alone w (suc j) v e = absurd (some-ne-none v (sym e))

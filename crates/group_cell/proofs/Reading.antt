@@ -12,7 +12,7 @@ use Rattle.group_cell.specs.declared.view.Sight.{Sight}
 use Rattle.group_cell.specs.declared.view.WriterView.{WriterView}
 use Rattle.group_cell.specs.declared.view.ReaderView.{ReaderView}
 use Rattle.group_cell.specs.Opening.{Opened}
-use Rattle.group_cell.specs.Layout.{address, home, sequence}
+use Rattle.group_cell.specs.Layout.{address, home_of, sequence}
 use Rattle.group_cell.specs.Rule.{IsEven, IsIn, IsAtRest, IsFresh, HasLoaded, Holds, bits_of, latest, Stands, Looks, Sees}
 use Rattle.group_cell.specs.Plays.{begun_look, looking, load, loaded_in, loaded, ended_in, looked}
 use Rattle.group_cell.proofs.Versions.{same_home_or, count_within, record_at-kept, extends-self, extends-trans}
@@ -22,9 +22,9 @@ use Rattle.group_cell.proofs.Writing.{odd_now}
 rests_or : (w : WriterView) (at : Home) → IsAtRest w at ⊎ (w.writing ≡ Some (address at))
 rests_or w at = go w.writing
   where
-    go : (o : Option Address) → IfSome o (λ a. home a ≢ at) ⊎ (o ≡ Some (address at))
+    go : (o : Option Address) → IfSome o (λ a. home_of a ≢ at) ⊎ (o ≡ Some (address at))
     go None = inl tt
-    go (Some a) = ⊎_elim (λ (e : home a ≡ at). inr (λ i. Some (address (e i)))) (λ other. inl other) (same_home_or (home a) at)
+    go (Some a) = ⊎_elim (λ (e : home_of a ≡ at). inr (λ i. Some (address (e i)))) (λ other. inl other) (same_home_or (home_of a) at)
 
 module _ (w : WriterView) (s : Stands w) (at : Home) (inside : IsIn w.opening at) where
   -- the group's sequence word is twice its count, plus 1 in writing
@@ -73,14 +73,14 @@ module _ (w : WriterView) (r : ReaderView) (s : Stands w) (k : Sees w r) where
       counted = q.counted;
       late = q.late;
       fresh = λ even here y has. ⊎_elim (λ (was : get_elem? l.loads has.0 ≡ some y). q.fresh even here y (has.0, was))
-          (λ (same : x ≡ y). subst (IsFresh w.words (home l.at)) same (just_loaded w.words (home l.at) word)) (at_snoc l.loads x y has.0 has.1);
+          (λ (same : x ≡ y). subst (IsFresh w.words (home_of l.at)) same (just_loaded w.words (home_of l.at) word)) (at_snoc l.loads x y has.0 has.1);
       whole = λ _ again. absurd (none-some l.first (sym alone ∙ again));
     };
   }
 
   -- with the same even number again, what was loaded is of the record of that version
-  pub reads_whole : (l : Sight) → r.last ≡ Some l → IsEven l.first → sequence w.words (home l.at) ≡ l.first → HasLoaded (bits_of r.opening) l.loads (home l.at) (latest r.opening r.seen (home l.at))
-  reads_whole l is even again = let q = looks_of l is in let at : Home = home l.at in
+  pub reads_whole : (l : Sight) → r.last ≡ Some l → IsEven l.first → sequence w.words (home_of l.at) ≡ l.first → HasLoaded (bits_of r.opening) l.loads (home_of l.at) (latest r.opening r.seen (home_of l.at))
+  reads_whole l is even again = let q = looks_of l is in let at : Home = home_of l.at in
       let rest = s.rest at q.inside (even_rests w s at q.inside (subst IsEven (sym again) even)) in
       let now = rest.version in
       let then_too = q.counted even in
@@ -93,8 +93,8 @@ module _ (w : WriterView) (r : ReaderView) (s : Stands w) (k : Sees w r) where
         fresh = q.fresh even again;
       }
 
-  pub ends : (l : Sight) → r.last ≡ Some l → Sees w (looked (sequence w.words (home l.at)) r)
-  ends l is = let n : ℕ = sequence w.words (home l.at) in let q = looks_of l is in record {
+  pub ends : (l : Sight) → r.last ≡ Some l → Sees w (looked (sequence w.words (home_of l.at)) r)
+  ends l is = let n : ℕ = sequence w.words (home_of l.at) in let q = looks_of l is in record {
     opening = k.opening;
     seen = k.seen;
     heard = k.heard;

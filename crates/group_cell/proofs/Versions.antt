@@ -8,7 +8,7 @@ use Rattle.group_search.specs.declared.published.Publication.{Publication}
 use Rattle.group_search.specs.declared.record.GroupRecord.{GroupRecord}
 use Rattle.group_search.specs.Home.{Home, is_home}
 use Rattle.group_search.specs.Image.{Image}
-use Rattle.group_search.specs.Published.{group_of, records_of, count, opening_record, record_at, Extends}
+use Rattle.group_search.specs.Published.{published_group, records_of, count, opening_record, record_at, Extends}
 
 -- two groups are the same or not
 pub one_home : (at other : Home) → at.block ≡ other.block → at.group ≡ other.group → at ≡ other
@@ -41,29 +41,29 @@ by_case false x xs ys = refl
 pub records_of-append : (ps qs : List Publication) (at : Home) → records_of (ps ++ qs) at ≡ records_of ps at ++ records_of qs at
 records_of-append [] qs at = refl
 records_of-append (p ∷ ps) qs at =
-    ap (λ (l : List GroupRecord). if is_home (group_of p) at then p.content ∷ l else l) (records_of-append ps qs at) ∙ by_case (is_home (group_of p) at) p.content (records_of ps at) (records_of qs at)
+    ap (λ (l : List GroupRecord). if is_home (published_group p) at then p.content ∷ l else l) (records_of-append ps qs at) ∙ by_case (is_home (published_group p) at) p.content (records_of ps at) (records_of qs at)
 
 module _ (ps : List Publication) (p : Publication) (at : Home) where
-  pub records_here : group_of p ≡ at → records_of (ps ++ p ∷ []) at ≡ records_of ps at ++ p.content ∷ []
-  records_here e = records_of-append ps (p ∷ []) at ∙ ap (λ (b : Bool). records_of ps at ++ (if b then p.content ∷ [] else [])) (is_home-same (group_of p) at e)
+  pub records_here : published_group p ≡ at → records_of (ps ++ p ∷ []) at ≡ records_of ps at ++ p.content ∷ []
+  records_here e = records_of-append ps (p ∷ []) at ∙ ap (λ (b : Bool). records_of ps at ++ (if b then p.content ∷ [] else [])) (is_home-same (published_group p) at e)
 
-  pub records_else : group_of p ≢ at → records_of (ps ++ p ∷ []) at ≡ records_of ps at
-  records_else n = records_of-append ps (p ∷ []) at ∙ (ap (λ (b : Bool). records_of ps at ++ (if b then p.content ∷ [] else [])) (is_home-else (group_of p) at n) ∙ append-nil (records_of ps at))
+  pub records_else : published_group p ≢ at → records_of (ps ++ p ∷ []) at ≡ records_of ps at
+  records_else n = records_of-append ps (p ∷ []) at ∙ (ap (λ (b : Bool). records_of ps at ++ (if b then p.content ∷ [] else [])) (is_home-else (published_group p) at n) ∙ append-nil (records_of ps at))
 
-  pub count_here : group_of p ≡ at → count (ps ++ p ∷ []) at ≡ count ps at + 1
+  pub count_here : published_group p ≡ at → count (ps ++ p ∷ []) at ≡ count ps at + 1
   count_here e = ap length (records_here e) ∙ length-append (records_of ps at) (p.content ∷ [])
 
-  pub count_else : group_of p ≢ at → count (ps ++ p ∷ []) at ≡ count ps at
+  pub count_else : published_group p ≢ at → count (ps ++ p ∷ []) at ≡ count ps at
   count_else n = ap length (records_else n)
 
   -- the record just published is its group's latest
-  pub latest_here : (images : List Image) → group_of p ≡ at → record_at images (ps ++ p ∷ []) at (count (ps ++ p ∷ []) at) ≡ p.content
+  pub latest_here : (images : List Image) → published_group p ≡ at → record_at images (ps ++ p ∷ []) at (count (ps ++ p ∷ []) at) ≡ p.content
   latest_here images e = let f : GroupRecord = opening_record images at in
       let n : count (ps ++ p ∷ []) at ≡ length (f ∷ records_of ps at) = count_here e ∙ omega arith in
       ap (λ (l : List GroupRecord). get_or (f ∷ l) (count (ps ++ p ∷ []) at) f) (records_here e)
       ∙ (ap (λ (k : ℕ). get_or (f ∷ (records_of ps at ++ p.content ∷ [])) k f) n ∙ get_or-append_seam (f ∷ records_of ps at) p.content [] f)
 
-  pub latest_else : (images : List Image) → group_of p ≢ at → record_at images (ps ++ p ∷ []) at (count (ps ++ p ∷ []) at) ≡ record_at images ps at (count ps at)
+  pub latest_else : (images : List Image) → published_group p ≢ at → record_at images (ps ++ p ∷ []) at (count (ps ++ p ∷ []) at) ≡ record_at images ps at (count ps at)
   latest_else images n = let f : GroupRecord = opening_record images at in ap (λ (l : List GroupRecord). get_or (f ∷ l) (length l) f) (records_else n)
 
 -- a version that the beginning has is the same in the whole
@@ -78,7 +78,7 @@ one_more false x xs n le = omega arith
 
 pub count_within : (ps : List Publication) (at : Home) → count ps at ≤ length ps
 count_within [] at = omega arith
-count_within (p ∷ ps) at = one_more (is_home (group_of p) at) p.content (records_of ps at) (length ps) (count_within ps at)
+count_within (p ∷ ps) at = one_more (is_home (published_group p) at) p.content (records_of ps at) (length ps) (count_within ps at)
 
 pub extends-self : (ps : List Publication) → Extends ps ps
 extends-self ps = ([], sym (append-nil ps))

@@ -9,7 +9,7 @@ use Rattle.group_cell.specs.declared.view.Load.{Load}
 use Rattle.group_cell.specs.declared.view.Sight.{Sight}
 use Rattle.group_cell.specs.declared.view.WriterView.{WriterView}
 use Rattle.group_cell.specs.declared.view.ReaderView.{ReaderView}
-use Rattle.group_cell.specs.Layout.{address, home, sequence_word, sequence, tag, high}
+use Rattle.group_cell.specs.Layout.{address, home_of, sequence_word, sequence, tag, high}
 use Rattle.group_cell.specs.Rule.{IsEven, IsIn, IsAtRest, IsFresh, Rests, Holds, bits_of, latest, Stands, Looks, Sees}
 use Rattle.group_cell.specs.Plays.{begun, stored, ended, publication}
 use Rattle.group_cell.proofs.Versions.{same_home_or, count_here, count_else, latest_here, latest_else, extends-self, extends-snoc, extends-trans}
@@ -57,7 +57,7 @@ fresh_on at words words' x same f = record {
 }
 
 looks_on : (w w' : WriterView) (r : ReaderView) (l : Sight) → Moves w w' → Looks w r l → Looks w' r l
-looks_on w w' r l m k = let at : Home = home l.at in let g = m.groups at k.inside in let late = k.late in let up = g.up in record {
+looks_on w w' r l m k = let at : Home = home_of l.at in let g = m.groups at k.inside in let late = k.late in let up = g.up in record {
   inside = subst (λ o. IsIn o at) (sym m.opening) k.inside;
   counted = k.counted;
   late = omega arith;
@@ -87,13 +87,13 @@ rests_on w w' at same u counted kept r = record {
 module _ (w : WriterView) (at : Home) (inside : IsIn w.opening at) (s : Stands w) where
   -- where nothing is written, each group rests
   resting : w.writing ≡ None → (h : Home) → IsAtRest w h
-  resting none h = subst (λ (o : Option Address). IfSome o (λ a. home a ≢ h)) (sym none) tt
+  resting none h = subst (λ (o : Option Address). IfSome o (λ a. home_of a ≢ h)) (sym none) tt
 
   others_rest : w.writing ≡ Some (address at) → (h : Home) → h ≢ at → IsAtRest w h
-  others_rest some h other = subst (λ (o : Option Address). IfSome o (λ a. home a ≢ h)) (sym some) (λ e. other (sym e))
+  others_rest some h other = subst (λ (o : Option Address). IfSome o (λ a. home_of a ≢ h)) (sym some) (λ e. other (sym e))
 
   pub odd_now : w.writing ≡ Some (address at) → sequence w.words at ≡ 2 * count w.published at + 1
-  odd_now some = (subst (λ (o : Option Address). IfSome o (λ a. IsIn w.opening (home a) × (sequence w.words (home a) ≡ 2 * count w.published (home a) + 1))) some s.in_writing).1
+  odd_now some = (subst (λ (o : Option Address). IfSome o (λ a. IsIn w.opening (home_of a) × (sequence w.words (home_of a) ≡ 2 * count w.published (home_of a) + 1))) some s.in_writing).1
 
   in_words : sequence_word at + 2 < length w.words
   in_words = let wide = s.wide in let b = inside.block in let g = inside.group in omega arith
@@ -141,13 +141,13 @@ module _ (w : WriterView) (at : Home) (inside : IsIn w.opening at) (s : Stands w
       wide = length-set w.words i n ∙ s.wide;
       few = s.few;
       rest = λ h in_table rests. rests_on w (stored i n w) h refl (others h in_table (not_at h rests)) refl refl (s.rest h in_table rests);
-      in_writing = subst (λ (o : Option Address). IfSome o (λ a. IsIn w.opening (home a) × (sequence (set w.words i n) (home a) ≡ 2 * count w.published (home a) + 1))) (sym some)
+      in_writing = subst (λ (o : Option Address). IfSome o (λ a. IsIn w.opening (home_of a) × (sequence (set w.words i n) (home_of a) ≡ 2 * count w.published (home_of a) + 1))) (sym some)
           (inside, version ∙ odd_now some);
       heard = s.heard;
     }
       where
         not_at : (h : Home) → IsAtRest w h → h ≢ at
-        not_at h rests e = subst (λ (o : Option Address). IfSome o (λ a. home a ≢ h)) some rests (sym e)
+        not_at h rests e = subst (λ (o : Option Address). IfSome o (λ a. home_of a ≢ h)) some rests (sym e)
 
   pub ends_moves : (content : GroupRecord) (even : ℕ) → even ≡ sequence w.words at + 1 → Moves w (ended at content even w)
   ends_moves content even is = record { opening = refl; longer = extends-snoc w.published (publication at content); groups = rises even is }

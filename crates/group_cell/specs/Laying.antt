@@ -1,4 +1,4 @@
--- How the words of a table are laid before it is opened, block by block.
+-- How the words of a table are laid before it is opened_with, block by block.
 use Rattle.std.specs.Prelude.{◌≡◌, ◌≢◌, ℕ, ◌+◌, ◌*◌, ◌<◌, ◌≤◌, List, [], ◌∷◌, length, slice_index_or}
 use Rattle.group_search.specs.declared.record.GroupRecord.{GroupRecord}
 use Rattle.group_search.specs.Canon.{rows_in}

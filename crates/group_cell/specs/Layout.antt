@@ -4,8 +4,8 @@ use Rattle.std.specs.Prelude.{ℕ, ◌+◌, ◌-◌, ◌*◌, ◌/◌, ◌%◌, 
 use Rattle.group_search.specs.Home.{Home}
 use Rattle.group_cell.specs.declared.view.Address.{Address}
 
-abbrev pub home : Address → Home
-home a = record { block = a.block; group = a.group }
+abbrev pub home_of : Address → Home
+home_of a = record { block = a.block; group = a.group }
 
 abbrev pub address : Home → Address
 address at = record { block = at.block; group = at.group }
@@ -24,8 +24,8 @@ abbrev pub data_word : Home → ℕ → ℕ
 data_word at j = 320 * at.block + 129 + 3 * at.group + j
 
 -- the group of a sequence word
-abbrev pub home_at : (word : ℕ) → Home
-home_at word = record { block = word / 320; group = (word % 320 - 128) / 3 }
+abbrev pub home_of_word : (word : ℕ) → Home
+home_of_word word = record { block = word / 320; group = (word % 320 - 128) / 3 }
 
 abbrev pub low : List ℕ → (block place : ℕ) → ℕ
 low words block place = slice_index words (low_word block place)

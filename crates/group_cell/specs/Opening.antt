@@ -1,4 +1,4 @@
--- What a table was opened with.
+-- What a table was opened_with with.
 use Rattle.std.specs.Prelude.{ℕ, List, []}
 use Rattle.flow_types.specs.Size.{Size}
 use Rattle.group_search.specs.Image.{Image}

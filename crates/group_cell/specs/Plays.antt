@@ -12,7 +12,7 @@ use Rattle.group_cell.specs.declared.view.WriterView.{WriterView}
 use Rattle.group_cell.specs.declared.view.ReaderView.{ReaderView}
 use Rattle.group_cell.specs.declared.view.View.{View}
 use Rattle.group_cell.specs.declared.view.View.TheVariants.{Writer, Reader, Spent}
-use Rattle.group_cell.specs.Layout.{address, home, home_at, sequence_word}
+use Rattle.group_cell.specs.Layout.{address, home_of, home_of_word, sequence_word}
 use Rattle.group_cell.specs.Rule.{bits_of, latest, IsEven, Stands, HasLoaded}
 
 abbrev pub first_writer : Opened → WriterView
@@ -109,19 +109,19 @@ module _ {S : Type 0} where
   Asks st m n m' = (m' ≡ m) × (n ≡ slice_index (writer_view m.0).words st.word) × Stands (writer_view m.0)
 
   abbrev pub Begins : Step S → Me S View → ℕ → Me S View → Type 0
-  Begins st m n m' = m' ≡ (Writer (begun (home_at st.word) st.first (writer_view m.0)), m.1)
+  Begins st m n m' = m' ≡ (Writer (begun (home_of_word st.word) st.first (writer_view m.0)), m.1)
 
   abbrev pub Stores : Step S → Me S View → ℕ → Me S View → Type 0
   Stores st m n m' = m' ≡ (Writer (stored st.word st.first (writer_view m.0)), m.1)
 
   -- the record is published; which one it is, a step alone can't say
   abbrev pub Ends : GroupRecord → Step S → Me S View → ℕ → Me S View → Type 0
-  Ends content st m n m' = m' ≡ (Writer (ended (home_at st.word) content st.first (writer_view m.0)), m.1)
+  Ends content st m n m' = m' ≡ (Writer (ended (home_of_word st.word) content st.first (writer_view m.0)), m.1)
 
   -- a look begins: the reader sees what is published by then
   abbrev pub StartsLook : Step S → Me S View → ℕ → Me S View → Type 0
-  StartsLook st m n m' = (seen : List Publication) × Extends (reader_view m.0).seen seen × (count seen (home_at st.word) ≡ n / 2) × (n < 2 ^ 33)
-      × (m' ≡ (Reader (looking (home_at st.word) n seen (reader_view m.0)), m.1))
+  StartsLook st m n m' = (seen : List Publication) × Extends (reader_view m.0).seen seen × (count seen (home_of_word st.word) ≡ n / 2) × (n < 2 ^ 33)
+      × (m' ≡ (Reader (looking (home_of_word st.word) n seen (reader_view m.0)), m.1))
 
   abbrev pub Loads : Step S → Me S View → ℕ → Me S View → Type 0
   Loads st m n m' = m' ≡ (Reader (loaded (load st.word n) (reader_view m.0)), m.1)
@@ -130,4 +130,4 @@ module _ {S : Type 0} where
   abbrev pub EndsLook : Step S → Me S View → ℕ → Me S View → Type 0
   EndsLook st m n m' = (m' ≡ (Reader (looked n (reader_view m.0)), m.1))
       × ((l : Sight) → (reader_view m.0).last ≡ Some l → IsEven l.first → n ≡ l.first
-      → let r = reader_view m.0 in HasLoaded (bits_of r.opening) l.loads (home l.at) (latest r.opening r.seen (home l.at)))
+      → let r = reader_view m.0 in HasLoaded (bits_of r.opening) l.loads (home_of l.at) (latest r.opening r.seen (home_of l.at)))

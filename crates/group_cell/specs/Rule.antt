@@ -20,7 +20,7 @@ use Rattle.group_cell.specs.declared.view.WriterView.{WriterView}
 use Rattle.group_cell.specs.declared.view.ReaderView.{ReaderView}
 use Rattle.group_cell.specs.declared.view.View.{View}
 use Rattle.group_cell.specs.declared.view.View.TheVariants.{Writer, Reader, Spent}
-use Rattle.group_cell.specs.Layout.{home, low_word, high_word, data_word, high, place_words, sequence, datum, tag}
+use Rattle.group_cell.specs.Layout.{home_of, low_word, high_word, data_word, high, place_words, sequence, datum, tag}
 
 abbrev pub IsEven : ℕ → Type 0
 IsEven n = n % 2 ≡ 0
@@ -39,13 +39,13 @@ abbrev pub latest : Opened → List Publication → Home → GroupRecord
 latest opening ps at = record_at opening.images ps at (count ps at)
 
 -- the rows that stand in places
-abbrev pub rows_of : GroupRecord → List Row
-rows_of (Served pairs) = []
-rows_of (Fallback rows) = rows
+abbrev pub rows_placed : GroupRecord → List Row
+rows_placed (Served pairs) = []
+rows_placed (Fallback rows) = rows
 
-abbrev pub IsSound : GroupRecord → Type 0
-IsSound (Served pairs) = Unit {0}
-IsSound (Fallback rows) = AreRows rows
+abbrev pub IsSoundRecord : GroupRecord → Type 0
+IsSoundRecord (Served pairs) = Unit {0}
+IsSoundRecord (Fallback rows) = AreRows rows
 
 -- the row stands in the list
 abbrev pub HasRow : List Row → Row → Type 0
@@ -60,12 +60,12 @@ pub record RowsStand (words : List ℕ) (at : Home) (rows : List Row) : Type 0 w
 pub record Holds (bits : ℕ) (words : List ℕ) (at : Home) (content : GroupRecord) : Type 0 where
   pub data_words : (j : ℕ) → j < 2 → datum words at j ≡ slice_index (words_of content) j
   pub packs : PacksTo bits (packed_of content) (words_of content)
-  pub rows : RowsStand words at (rows_of content)
-  pub sound : IsSound content
+  pub rows : RowsStand words at (rows_placed content)
+  pub sound : IsSoundRecord content
 
 -- the group isn't the one in writing
 abbrev pub IsAtRest : WriterView → Home → Type 0
-IsAtRest w at = IfSome w.writing (λ a. home a ≢ at)
+IsAtRest w at = IfSome w.writing (λ a. home_of a ≢ at)
 
 -- what stands of a group at rest: its version, and its latest record
 pub record Rests (w : WriterView) (at : Home) : Type 0 where
@@ -80,7 +80,7 @@ pub record Stands (w : WriterView) : Type 0 where
   pub wide : length w.words ≡ 320 * length w.opening.images
   pub few : length w.published < 2 ^ 32
   pub rest : (at : Home) → IsIn w.opening at → IsAtRest w at → Rests w at
-  pub in_writing : IfSome w.writing (λ a. IsIn w.opening (home a) × (sequence w.words (home a) ≡ 2 * count w.published (home a) + 1))
+  pub in_writing : IfSome w.writing (λ a. IsIn w.opening (home_of a) × (sequence w.words (home_of a) ≡ 2 * count w.published (home_of a) + 1))
   pub heard : AllIn (λ l. Extends l w.published) w.heard
 
 -- what was loaded stands there, as far as the group's record is concerned: its data words, the tags of its places, and
@@ -105,11 +105,11 @@ pub record HasLoaded (bits : ℕ) (loads : List Load) (at : Home) (content : Gro
 
 -- what a look tells while it goes on, and after it has ended with the even number with which it began
 pub record Looks (w : WriterView) (r : ReaderView) (l : Sight) : Type 0 where
-  pub inside : IsIn w.opening (home l.at)
-  pub counted : IsEven l.first → 2 * count r.seen (home l.at) ≡ l.first
-  pub late : l.first ≤ sequence w.words (home l.at)
-  pub fresh : IsEven l.first → sequence w.words (home l.at) ≡ l.first → AreFresh w.words (home l.at) l.loads
-  pub whole : IsEven l.first → l.second ≡ Some l.first → HasLoaded (bits_of r.opening) l.loads (home l.at) (latest r.opening r.seen (home l.at))
+  pub inside : IsIn w.opening (home_of l.at)
+  pub counted : IsEven l.first → 2 * count r.seen (home_of l.at) ≡ l.first
+  pub late : l.first ≤ sequence w.words (home_of l.at)
+  pub fresh : IsEven l.first → sequence w.words (home_of l.at) ≡ l.first → AreFresh w.words (home_of l.at) l.loads
+  pub whole : IsEven l.first → l.second ≡ Some l.first → HasLoaded (bits_of r.opening) l.loads (home_of l.at) (latest r.opening r.seen (home_of l.at))
 
 -- a reader has seen a beginning of what was published
 pub record Sees (w : WriterView) (r : ReaderView) : Type 0 where
@@ -118,10 +118,10 @@ pub record Sees (w : WriterView) (r : ReaderView) : Type 0 where
   pub heard : AllIn (λ l. Extends l r.seen) r.heard
   pub look : IfSome r.last (Looks w r)
 
-abbrev pub Knows : WriterView → (writer seat : ℕ) → View → Type 0
-Knows w writer seat (Writer v) = (seat ≡ writer) × (v ≡ w)
-Knows w writer seat (Reader r) = Sees w r
-Knows w writer seat Spent = Unit {0}
+abbrev pub AgreesWith : WriterView → (writer seat : ℕ) → View → Type 0
+AgreesWith w writer seat (Writer v) = (seat ≡ writer) × (v ≡ w)
+AgreesWith w writer seat (Reader r) = Sees w r
+AgreesWith w writer seat Spent = Unit {0}
 
 -- there is one writer; the table's words are those of its view, and each reader sees a beginning of its list
 pub record Kept {S : Type 0} (opening : Opened) (s : State S View) : Type 0 where
@@ -129,6 +129,6 @@ pub record Kept {S : Type 0} (opening : Opened) (s : State S View) : Type 0 wher
   pub view : WriterView
   pub seat : get_elem? s.views writer ≡ some (Writer view)
   pub words : s.words ≡ view.words
-  pub opened : view.opening ≡ opening
+  pub opened_with : view.opening ≡ opening
   pub stands : Stands view
-  pub each_seat : (j : ℕ) (v : View) → get_elem? s.views j ≡ some v → Knows view writer j v
+  pub each_seat : (j : ℕ) (v : View) → get_elem? s.views j ≡ some v → AgreesWith view writer j v

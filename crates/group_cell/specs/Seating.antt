@@ -36,7 +36,7 @@ pub record IsReaderSeat (s : Place) : Type 0 where
   pub reads : IsReader s.me.0
   pub bare : s.me.1 ≡ []
 
--- the seat's table has these words, and was opened with these images, of which one has the group
+-- the seat's table has these words, and was opened_with with these images, of which one has the group
 pub record IsAt (words : ℕ) (opening : Opened) (at : Home) : Type 0 where
   pub wide : words ≡ 320 * length opening.images
   pub inside : IsIn opening at

@@ -19,9 +19,9 @@ use Rattle.group_cell.specs.Seating.{last_look}
 abbrev pub the_group : (block group : ℕ) → Home
 the_group block group = record { block = block; group = group }
 
--- what the table was opened with
-abbrev pub opened : CellTable → Opened
-opened table = table.table.shared.key.value
+-- what the table was opened_with with
+abbrev pub opened_with : CellTable → Opened
+opened_with table = table.table.shared.key.value
 
 -- all that the writer has published, in order
 abbrev pub published : WriterSeat → List Publication
@@ -38,11 +38,11 @@ looks reader = (reader_view reader.seat.me.0).looks
 -- the seat is the table's
 pub record IsWriterOf (table : CellTable) (writer : WriterSeat) : Type 0 where
   pub one_table : writer.seat.table_id ≡ table.table.shared.table_id
-  pub one_opening : (writer_view writer.seat.me.0).opening ≡ opened table
+  pub one_opening : (writer_view writer.seat.me.0).opening ≡ opened_with table
 
 pub record IsReaderOf (table : CellTable) (reader : ReaderSeat) : Type 0 where
   pub one_table : reader.seat.table_id ≡ table.table.shared.table_id
-  pub one_opening : (reader_view reader.seat.me.0).opening ≡ opened table
+  pub one_opening : (reader_view reader.seat.me.0).opening ≡ opened_with table
 
 -- the reader's last look was of the group, and its two loads of the sequence word found these numbers
 pub record HasLooked (reader : ReaderSeat) (at : Home) (first second : ℕ) : Type 0 where
@@ -50,14 +50,14 @@ pub record HasLooked (reader : ReaderSeat) (at : Home) (first second : ℕ) : Ty
   pub last : last_look reader.seat ≡ Some (record { at = address at; first = first; second = Some second; loads = loads })
 
 -- the node that the group's record of this version gives the key, after these publications
-abbrev pub node_at : Opened → List Publication → Home → (version : ℕ) → FlowKey → Option ℕ
-node_at opening ps at version key = decode (record_at opening.images ps at version) opening.size.nodes key
+abbrev pub node_at_version : Opened → List Publication → Home → (version : ℕ) → FlowKey → Option ℕ
+node_at_version opening ps at version key = decode (record_at opening.images ps at version) opening.size.nodes key
 
 -- a look's answer: the group's version in the list that the reader has then seen, by the sequence word that this look
 -- loaded, and the node that the record of that version gives the key
-pub record Answers (opening : Opened) (reader : ReaderSeat) (at : Home) (key : FlowKey) (version : ℕ) (node : Option ℕ) : Type 0 where
+pub record FindsNode (opening : Opened) (reader : ReaderSeat) (at : Home) (key : FlowKey) (version : ℕ) (node : Option ℕ) : Type 0 where
   pub version_is : version ≡ count (seen reader) at
-  pub node_is : node ≡ node_at opening (seen reader) at version key
+  pub node_is : node ≡ node_at_version opening (seen reader) at version key
   pub this_look : HasLooked reader at (2 * version) (2 * version)
 
 -- the group was in writing when this look began, or its sequence word was another when it ended

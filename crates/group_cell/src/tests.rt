@@ -3,7 +3,7 @@ ghost use Rattle.flow_types.specs.Size.{value_bits};
 ghost use Rattle.group_search.specs.Canon.{rows_in};
 ghost use Rattle.group_search.specs.Words.{HasBits};
 ghost use Rattle.group_cell.specs.Rule.{IsIn};
-ghost use Rattle.group_cell.specs.Seats.{IsReaderOf, IsWriterOf, opened, published, the_group};
+ghost use Rattle.group_cell.specs.Seats.{IsReaderOf, IsWriterOf, opened_with, published, the_group};
 
 use crate::{CellTable, ReaderSeat, WriterSeat};
 use block_layout::choose;
@@ -69,8 +69,8 @@ fn image(alloc: Global) -> Result<BlockImage, AllocError>
 /// A table of two blocks for four nodes, and its writer's seat.
 fn table(alloc: Global) -> Result<(CellTable, WriterSeat), Fail>
     ensures writer { IfOk result (λ r. IsWriterOf r.0 r.1) }
-    ensures blocks { IfOk result (λ r. length (opened r.0).images ≡ 2) }
-    ensures bits { IfOk result (λ r. value_bits (opened r.0).size.nodes ≡ 2) }
+    ensures blocks { IfOk result (λ r. length (opened_with r.0).images ≡ 2) }
+    ensures bits { IfOk result (λ r. value_bits (opened_with r.0).size.nodes ≡ 2) }
     ensures published { IfOk result (λ r. length (published r.1) ≡ 0) }
 {
     let shape = Shape::new(4, 2).ok_or("shape")?;
@@ -87,8 +87,8 @@ fn publish(
     content: &GroupRecord,
 ) -> bool
     requires writer { IsWriterOf table.now writer.old }
-    requires inside { IsIn (opened table.now) (the_group block group) }
-    requires bits { HasBits (value_bits (opened table.now).size.nodes) content.now }
+    requires inside { IsIn (opened_with table.now) (the_group block group) }
+    requires bits { HasBits (value_bits (opened_with table.now).size.nodes) content.now }
     requires few { length (published writer.old) < 4294967295 }
     ensures writer { IsWriterOf table.now writer.new }
     ensures count { length (published writer.new) ≤ length (published writer.old) + 1 }
@@ -109,7 +109,7 @@ fn found(
     key: FlowKey,
 ) -> (u32, Option<u8>)
     requires reader { IsReaderOf table.now reader.old }
-    requires inside { IsIn (opened table.now) (the_group block group) }
+    requires inside { IsIn (opened_with table.now) (the_group block group) }
     ensures { IsReaderOf table.now reader.new }
 {
     table
@@ -126,7 +126,7 @@ fn finds_all(
     expected: (u32, Option<u8>),
 ) -> bool
     requires reader { IsReaderOf table.now reader.old }
-    requires inside { IsIn (opened table.now) (the_group 0 group) }
+    requires inside { IsIn (opened_with table.now) (the_group 0 group) }
     requires count { count < 255 }
     ensures { IsReaderOf table.now reader.new }
 {
@@ -184,7 +184,7 @@ fn rows_come_and_go(rt: HostRuntime) -> Result<(), Fail> {
 }
 
 /// The blocks and groups that are published in turn.
-fn group_of(turn: u32) -> (u16, u8)
+fn published_group(turn: u32) -> (u16, u8)
     ensures block { result.0 < 2 }
     ensures group { result.1 < 64 }
 {
@@ -213,14 +213,14 @@ fn node_of_version(version: u32) -> Option<u8> {
 /// Publishes so many records, of six groups in turn, and counts those for which there was room.
 fn publish_many(table: &CellTable, mut writer: WriterSeat, times: u32) -> (WriterSeat, u32)
     requires writer { IsWriterOf table.now writer }
-    requires blocks { length (opened table.now).images ≡ 2 }
-    requires bits { value_bits (opened table.now).size.nodes ≡ 2 }
+    requires blocks { length (opened_with table.now).images ≡ 2 }
+    requires bits { value_bits (opened_with table.now).size.nodes ≡ 2 }
     requires few { length (published writer) + times < 4294967295 }
     ensures { IsWriterOf table.now result.0 }
 {
     let mut done = 0;
     'turns: for turn in 0..times {
-        let (block, group) = group_of(turn);
+        let (block, group) = published_group(turn);
         if let Some(content) = version_of_group(turn / 6 + 1) {
             if publish(table, &mut writer, block, group, &content) {
                 done += 1;
@@ -233,12 +233,12 @@ fn publish_many(table: &CellTable, mut writer: WriterSeat, times: u32) -> (Write
 /// Looks so many times, and counts the answers and those that aren't what was published as their version.
 fn look_many(table: &CellTable, mut reader: ReaderSeat, times: u32) -> (u32, u32)
     requires reader { IsReaderOf table.now reader }
-    requires blocks { length (opened table.now).images ≡ 2 }
+    requires blocks { length (opened_with table.now).images ≡ 2 }
 {
     let mut answered = 0;
     let mut wrong = 0;
     'looks: for turn in 0..times {
-        let (block, group) = group_of(turn);
+        let (block, group) = published_group(turn);
         let key = key(1 + (turn / 6 % 2) as u8);
         if let Ok(look) = table.look(&mut reader, block, group, key) {
             answered += 1;
@@ -258,8 +258,8 @@ fn publish_and_look<R: Threads + Sync>(
 ) -> ((WriterSeat, u32), (u32, u32))
     requires writer { IsWriterOf table.now writer }
     requires reader { IsReaderOf table.now reader }
-    requires blocks { length (opened table.now).images ≡ 2 }
-    requires bits { value_bits (opened table.now).size.nodes ≡ 2 }
+    requires blocks { length (opened_with table.now).images ≡ 2 }
+    requires bits { value_bits (opened_with table.now).size.nodes ≡ 2 }
     requires few { length (published writer) ≡ 0 }
     ensures { IsWriterOf table.now result.0.0 }
 {
@@ -278,7 +278,7 @@ fn look_twice<R: Threads + Sync>(
 ) -> ((u32, u32), (u32, u32))
     requires one { IsReaderOf table.now one }
     requires other { IsReaderOf table.now other }
-    requires blocks { length (opened table.now).images ≡ 2 }
+    requires blocks { length (opened_with table.now).images ≡ 2 }
 {
     join(
         rt,

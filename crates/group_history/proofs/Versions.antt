@@ -14,7 +14,7 @@ use Rattle.flow_types.proofs.KeyedFlows.{distinct-put, distinct-without, flow_at
 use Rattle.group_search.specs.Home.{Home}
 use Rattle.group_history.specs.declared.change.Change.{Change}
 use Rattle.group_history.specs.Change.{concerns, flow_to, step, with_at}
-use Rattle.group_history.specs.Journal.{concerning, count}
+use Rattle.group_history.specs.Journal.{concerning, change_count}
 use Rattle.group_history.specs.History.{at_version, changed, now}
 
 -- ---- one change
@@ -65,12 +65,12 @@ module _ (at : Home) where
   unfolding concerning
   concerning_later changes later = filter-append (concerns at) changes later
 
-  pub count_own : (changes : List Change) (change : Change) → concerns at change ≡ true → count at (changes ++ change ∷ []) ≡ count at changes + 1
-  unfolding count
+  pub count_own : (changes : List Change) (change : Change) → concerns at change ≡ true → change_count at (changes ++ change ∷ []) ≡ change_count at changes + 1
+  unfolding change_count
   count_own changes change own = ap length (concerning_own changes change own) ∙ length-append (concerning at changes) (change ∷ [])
 
-  pub count_other : (changes : List Change) (change : Change) → concerns at change ≡ false → count at (changes ++ change ∷ []) ≡ count at changes
-  unfolding count
+  pub count_other : (changes : List Change) (change : Change) → concerns at change ≡ false → change_count at (changes ++ change ∷ []) ≡ change_count at changes
+  unfolding change_count
   count_other changes change other = ap length (concerning_other changes change other)
 
   module _ (opening : List Flow) where
@@ -88,42 +88,42 @@ module _ (at : Home) where
 
     -- ---- versions
 
-    pub version_there : (changes : List Change) (version : ℕ) → version ≤ count at changes
+    pub version_there : (changes : List Change) (version : ℕ) → version ≤ change_count at changes
         → at_version opening changes at version ≡ Some (changed opening (take version (concerning at changes)))
     unfolding at_version
-    version_there changes version there = cond-true _ _ None (le-leb version (count at changes) there)
+    version_there changes version there = cond-true _ _ None (le-leb version (change_count at changes) there)
 
     pub version_first : (changes : List Change) → at_version opening changes at 0 ≡ Some opening
     unfolding changed
     version_first changes = version_there changes 0 (omega arith)
 
-    pub version_last : (changes : List Change) → at_version opening changes at (count at changes) ≡ Some (now opening changes at)
-    unfolding now count
+    pub version_last : (changes : List Change) → at_version opening changes at (change_count at changes) ≡ Some (now opening changes at)
+    unfolding now change_count
     version_last changes =
-        version_there changes (count at changes) (omega arith)
+        version_there changes (change_count at changes) (omega arith)
         ∙ ap (λ (cs : List Change). Some (changed opening cs)) (take_all (length (concerning at changes)) (concerning at changes) (omega arith))
 
-    pub version_kept : (changes later : List Change) (version : ℕ) → version ≤ count at changes
+    pub version_kept : (changes later : List Change) (version : ℕ) → version ≤ change_count at changes
         → at_version opening (changes ++ later) at version ≡ at_version opening changes at version
-    unfolding count
+    unfolding change_count
     version_kept changes later version there =
-        let longer : version ≤ count at (changes ++ later) =
+        let longer : version ≤ change_count at (changes ++ later) =
         omega (arith, ap length (concerning_later changes later), length-append (concerning at changes) (concerning at later)) in
         version_there (changes ++ later) version longer
         ∙ ap (λ (cs : List Change). Some (changed opening (take version cs))) (concerning_later changes later)
         ∙ ap (λ (cs : List Change). Some (changed opening cs)) (take-append-le version (concerning at changes) (concerning at later) there)
         ∙ sym (version_there changes version there)
 
-    there_case : (within : Bool) (version : ℕ) (changes : List Change) (flows : List Flow) → nat_le version (count at changes) ≡ within
+    there_case : (within : Bool) (version : ℕ) (changes : List Change) (flows : List Flow) → nat_le version (change_count at changes) ≡ within
         → (if within then Some (changed opening (take version (concerning at changes))) else None) ≡ Some flows
-        → (version ≤ count at changes) × (changed opening (take version (concerning at changes)) ≡ flows)
-    there_case true version changes flows test found = (leb-true version (count at changes) test, cc)
+        → (version ≤ change_count at changes) × (changed opening (take version (concerning at changes)) ≡ flows)
+    there_case true version changes flows test found = (leb-true version (change_count at changes) test, cc)
     there_case false version changes flows test found = cc
 
     pub version_is : (changes : List Change) (version : ℕ) (flows : List Flow) → at_version opening changes at version ≡ Some flows
-        → (version ≤ count at changes) × (changed opening (take version (concerning at changes)) ≡ flows)
+        → (version ≤ change_count at changes) × (changed opening (take version (concerning at changes)) ≡ flows)
     unfolding at_version
-    version_is changes version flows found = there_case (nat_le version (count at changes)) version changes flows refl found
+    version_is changes version flows found = there_case (nat_le version (change_count at changes)) version changes flows refl found
 
     pub distinct-version : (changes : List Change) (version : ℕ) (flows : List Flow) → AreDistinct opening → at_version opening changes at version ≡ Some flows → AreDistinct flows
     distinct-version changes version flows distinct found =

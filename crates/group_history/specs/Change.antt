@@ -21,9 +21,9 @@ unfoldable pub step : List Flow → Change → List Flow
 step flows change = with_at change.key change.to flows
 
 -- the group that a change is of
-abbrev pub group_of : Change → Home
-group_of change = record { block = change.block; group = change.group }
+abbrev pub changed_group : Change → Home
+changed_group change = record { block = change.block; group = change.group }
 
 -- the change is one of this group
 abbrev pub concerns : Home → Change → Bool
-concerns at change = is_home (group_of change) at
+concerns at change = is_home (changed_group change) at

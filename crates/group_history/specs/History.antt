@@ -4,7 +4,7 @@ use Rattle.flow_types.specs.declared.record.Flow.{Flow}
 use Rattle.group_search.specs.Home.{Home}
 use Rattle.group_history.specs.declared.change.Change.{Change}
 use Rattle.group_history.specs.Change.{step}
-use Rattle.group_history.specs.Journal.{concerning, count}
+use Rattle.group_history.specs.Journal.{concerning, change_count}
 
 -- a map after these changes, one after the other
 unfoldable pub changed : List Flow → List Change → List Flow
@@ -18,4 +18,4 @@ now opening changes at = changed opening (concerning at changes)
 -- where there aren't as many
 unfoldable pub at_version : List Flow → List Change → Home → ℕ → Option (List Flow)
 at_version opening changes at version =
-    if nat_le version (count at changes) then Some (changed opening (take version (concerning at changes))) else None
+    if nat_le version (change_count at changes) then Some (changed opening (take version (concerning at changes))) else None

@@ -14,5 +14,5 @@ unfoldable pub concerning : Home → List Change → List Change
 concerning at changes = filter (concerns at) changes
 
 -- how many changes are of a group: that is the group's version after them
-unfoldable pub count : Home → List Change → ℕ
-count at changes = length (concerning at changes)
+unfoldable pub change_count : Home → List Change → ℕ
+change_count at changes = length (concerning at changes)

@@ -1,5 +1,5 @@
 ghost use Rattle.std.specs.Prelude.{◌≡◌, ◌<◌, ◌≤◌, ◌+◌, ◌-◌, ◌^◌, ◌++◌, ◌∷◌, [], OnOk, OnErr, length, slice_get, if◌then◌else◌, nat_eq, None};
-ghost use Rattle.group_history.specs.Journal.{count};
+ghost use Rattle.group_history.specs.Journal.{change_count};
 
 use crate::change::Change;
 use out_of_memory::OutOfMemory;
@@ -21,13 +21,13 @@ impl Model for Journal {
     ghost use Rattle.std.specs.Prelude.{vec_capacity};
     ghost use Rattle.std.specs.HashMap.{get, spare as places_left};
     ghost use Rattle.group_history.specs.Journal.{Log};
-    ghost use Rattle.group_history.specs.Kept.{IsKept, same_group};
+    ghost use Rattle.group_history.specs.Kept.{KeepsCounts, same_group};
 
     ghost Value = { Log };
 
     ghost view = { λ j. record { changes = j.changes.items; spare = j.spare } };
 
-    ghost invariant = { λ j. IsKept (λ group. get same_group j.counts group) (places_left j.counts) (vec_capacity j.changes) j.spare j.changes.items };
+    ghost invariant = { λ j. KeepsCounts (λ group. get same_group j.counts group) (places_left j.counts) (vec_capacity j.changes) j.spare j.changes.items };
 }
 
 impl Journal {
@@ -90,7 +90,7 @@ impl Journal {
 
     /// How many changes are of this group of a block.
     pub fn count(&self, block: u16, group: u8) -> u32
-        ensures { result ≡ count (record { block = block; group = group }) self.now.changes }
+        ensures { result ≡ change_count (record { block = block; group = group }) self.now.changes }
     {
         self.counts.get(&(block, group)).copied().unwrap_or(0)
     }

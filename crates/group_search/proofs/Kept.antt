@@ -6,7 +6,7 @@ use Rattle.std.proofs.lemmas.Bool.{eqb-true}
 use Rattle.std.proofs.lemmas.List.{append-nil, drop_all}
 use Rattle.hash_family.specs.declared.pairing.HashPair.{HashPair}
 use Rattle.group_search.specs.declared.entry.Entry.{Entry}
-use Rattle.group_search.specs.Lanes.{has_bit, pair_in, pairs_with}
+use Rattle.group_search.specs.Lanes.{has_bit, entry_hashes, pairs_with}
 
 -- read past the end of a list of entries
 abbrev pub nobody : Entry
@@ -46,7 +46,7 @@ both_next false false n m all h f = omega arith
 length_more : (value bit : ℕ) (e : Entry) (entries : List Entry) → length (pairs_with value bit (e ∷ entries)) ≡ cond (has_bit value bit e) 1 0 + length (pairs_with value bit entries)
 unfolding pairs_with
 length_more value bit e entries = go (has_bit value bit e) where
-  go : (b : Bool) → length (map pair_in (cond b (e ∷ filter (has_bit value bit) entries) (filter (has_bit value bit) entries))) ≡ cond b 1 0 + length (map pair_in (filter (has_bit value bit) entries))
+  go : (b : Bool) → length (map entry_hashes (cond b (e ∷ filter (has_bit value bit) entries) (filter (has_bit value bit) entries))) ≡ cond b 1 0 + length (map entry_hashes (filter (has_bit value bit) entries))
   go true = omega arith
   go false = omega arith
 

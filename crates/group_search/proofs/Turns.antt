@@ -14,7 +14,7 @@ use Rattle.hash_family.specs.Hash.{position}
 use Rattle.hash_family.specs.declared.pairing.HashPair.{HashPair}
 use Rattle.group_search.specs.declared.entry.Entry.{Entry}
 use Rattle.group_search.specs.declared.entry.Pair.{Pair}
-use Rattle.group_search.specs.Lanes.{lanes, are_apart, array_between, first_between, has_bit, mask_of, pair_in, pairs_with}
+use Rattle.group_search.specs.Lanes.{lanes, are_apart, array_between, first_between, has_bit, mask_of, entry_hashes, pairs_with}
 use Rattle.group_search.specs.Serving.{at_index, array_serving, first_serving, least_of}
 use Rattle.group_search.proofs.Bits.{mask_assoc, apart_from_bits, apart, kept_by_or, other_bit}
 use Rattle.group_search.proofs.Scan.{joined, scan, scan_is_array_serving}
@@ -153,9 +153,9 @@ module _ (value index bit : ℕ) where
   mask_with_more : (mask : ℕ) (e : Entry) (entries : List Entry) → bit_or mask (mask_with (e ∷ entries)) ≡ bit_or (joined value index bit mask e) (mask_with entries)
   unfolding mask_of pairs_with
   mask_with_more mask e entries = go (has_bit value bit e) where
-    go : (b : Bool) → bit_or mask (mask_of index (map pair_in (cond b (e ∷ filter (has_bit value bit) entries) (filter (has_bit value bit) entries))))
-        ≡ bit_or (cond b (bit_or mask (2 ^ position e.pair index)) mask) (mask_of index (map pair_in (filter (has_bit value bit) entries)))
-    go true = sym (mask_assoc mask (2 ^ position e.pair index) (mask_of index (map pair_in (filter (has_bit value bit) entries))))
+    go : (b : Bool) → bit_or mask (mask_of index (map entry_hashes (cond b (e ∷ filter (has_bit value bit) entries) (filter (has_bit value bit) entries))))
+        ≡ bit_or (cond b (bit_or mask (2 ^ position e.pair index)) mask) (mask_of index (map entry_hashes (filter (has_bit value bit) entries)))
+    go true = sym (mask_assoc mask (2 ^ position e.pair index) (mask_of index (map entry_hashes (filter (has_bit value bit) entries))))
     go false = refl
 
   mask_with_none : (mask : ℕ) → bit_or mask (mask_with []) ≡ mask

@@ -34,9 +34,9 @@ first_between (suc count) index ones zeros =
 abbrev pub has_bit : (value bit : ℕ) → Entry → Bool
 has_bit value bit e = bit_at e.node bit == value
 
-abbrev pub pair_in : Entry → HashPair
-pair_in e = e.pair
+abbrev pub entry_hashes : Entry → HashPair
+entry_hashes e = e.pair
 
 -- the hash pairs of the entries whose bit has this value
 unfoldable pub pairs_with : (value bit : ℕ) → List Entry → List HashPair
-pairs_with value bit entries = map pair_in (filter (has_bit value bit) entries)
+pairs_with value bit entries = map entry_hashes (filter (has_bit value bit) entries)

@@ -9,6 +9,7 @@ pub mod Decoding
 pub mod Words
 pub mod Laws
 pub mod Home
+pub mod Owned
 pub mod Records
 pub mod Image
 pub mod Build

@@ -7,13 +7,13 @@ use Rattle.group_search.specs.Home.{Home, is_home}
 use Rattle.group_search.specs.Image.{Image}
 
 -- the group that a record was published for
-abbrev pub group_of : Publication → Home
-group_of p = record { block = p.block; group = p.group }
+abbrev pub published_group : Publication → Home
+published_group p = record { block = p.block; group = p.group }
 
 -- the group's records, in the order in which they were published
 abbrev pub records_of : List Publication → Home → List GroupRecord
 records_of [] at = []
-records_of (p ∷ ps) at = if is_home (group_of p) at then p.content ∷ records_of ps at else records_of ps at
+records_of (p ∷ ps) at = if is_home (published_group p) at then p.content ∷ records_of ps at else records_of ps at
 
 -- how many records were published for the group: its version
 abbrev pub count : List Publication → Home → ℕ

@@ -13,11 +13,11 @@ use Rattle.packet_reader.specs.declared.kind.Kind.{Kind}
 use Rattle.packet_reader.specs.declared.mode.Mode.{Mode}
 use Rattle.packet_reader.specs.Form.{IsFormed, IsOfKind}
 use Rattle.packet_reader.specs.Mode.{may_stand}
-use Rattle.packet_reader.specs.Script.{Progress, row_after, script_ends, refused_or, script_from, script_of, start, with_row, with_said}
+use Rattle.packet_reader.specs.Script.{Progress, row_after, script_ends, refused_or, script_from, script_of, start, with_row, with_row_said}
 
 -- what the rows say, where the first of them says this
 abbrev pub goes_on : Mode → Size → List Row → Progress → ℕ → Result (Option Event) Why → Result (List Event) BadRow
-goes_on mode shape rest so_far number said = refused_or number said (script_from mode shape rest (with_said so_far said) (number + 1))
+goes_on mode shape rest so_far number said = refused_or number said (script_from mode shape rest (with_row_said so_far said) (number + 1))
 
 -- one more row skipped
 pub row_skipped : (found : Bool) (all before after : List Row) (row : Row) (i : ℕ) → i < length all → before ≡ drop i all → TakesRow found before row after → after ≡ drop (i + 1) all

@@ -52,9 +52,9 @@ abbrev pub script_ends : Progress → ℕ → Result (List Event) BadRow
 script_ends so_far number = if so_far.ended then Ok so_far.events else Err (bad_row number why.NoEnd)
 
 -- what was read after one more row, where that isn't bad
-abbrev pub with_said : Progress → Result (Option Event) Why → Progress
-with_said so_far (Ok said) = with_row so_far said
-with_said so_far (Err reason) = so_far
+abbrev pub with_row_said : Progress → Result (Option Event) Why → Progress
+with_row_said so_far (Ok said) = with_row so_far said
+with_row_said so_far (Err reason) = so_far
 
 -- a bad row is the answer, and any other leaves the answer to the rows after it
 abbrev pub refused_or : (number : ℕ) → (said : Result (Option Event) Why) → (later : Result (List Event) BadRow) → Result (List Event) BadRow
@@ -66,7 +66,7 @@ unfoldable pub script_from : Mode → Size → List Row → Progress → ℕ →
 script_from mode shape [] so_far number = script_ends so_far number
 script_from mode shape (row ∷ rest) so_far number =
     let said = row_after mode shape so_far row in
-    refused_or number said (script_from mode shape rest (with_said so_far said) (number + 1))
+    refused_or number said (script_from mode shape rest (with_row_said so_far said) (number + 1))
 
 -- the script that the rows after `begin` say, or the first of them that is bad; `begin` stands in the row of this number
 unfoldable pub script_of : Mode → Size → ℕ → List Row → Result (List Event) BadRow

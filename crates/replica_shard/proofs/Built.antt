@@ -20,7 +20,8 @@ use Rattle.group_search.specs.declared.record.GroupRecord.TheVariants.{Fallback}
 use Rattle.group_search.specs.Records.{AreHandled, record_of}
 use Rattle.group_search.proofs.EachFlow.{routes_each_flow}
 use Rattle.replica_shard.specs.Routed.{decoded, routed}
-use Rattle.replica_shard.specs.Table.{AreImagesOf, IsOwned, IsTableOf, home_in, group_record_in}
+use Rattle.group_search.specs.Owned.{IsOwned}
+use Rattle.replica_shard.specs.Table.{AreImagesOf, IsTableOf, home_in, group_record_in}
 
 abbrev no_image : Image
 no_image = record { choices = []; records = [] }

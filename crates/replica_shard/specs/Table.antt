@@ -9,6 +9,7 @@ use Rattle.hash_family.specs.declared.bucket.Place.{Place}
 use Rattle.group_search.specs.declared.record.GroupRecord.{GroupRecord}
 use Rattle.group_search.specs.Home.{Home, group_of, home}
 use Rattle.group_search.specs.Image.{Image}
+use Rattle.group_search.specs.Owned.{IsOwned}
 use Rattle.group_search.specs.Records.{record_of}
 use Rattle.replica_shard.specs.Routed.{decoded, routed}
 
@@ -21,10 +22,6 @@ pub record Table : Type 0 where
 -- the blocks are dealt to the nodes in turn: of all images, those of the owner's blocks, in their order
 pub record AreImagesOf (nodes owner : ℕ) (all owned : List Image) : Type 0 where
   pub each : (i : ℕ) → slice_get owned i ≡ slice_get all (owner + nodes * i)
-
--- the key's block belongs to the owner
-abbrev pub IsOwned : Size → (owner : ℕ) → FlowKey → Type 0
-IsOwned size owner key = (place size.blocks key).block % size.nodes ≡ owner
 
 -- the table's image of one of the owner's blocks
 abbrev pub image_in : Table → (block : ℕ) → Option Image

@@ -1,7 +1,8 @@
 ghost use Rattle.std.specs.Prelude.{◌≡◌, ◌<◌, ◌≤◌, ◌+◌, ◌*◌, ◌%◌, IfOk, IsSome, List, length};
 ghost use Rattle.flow_types.specs.declared.record.Flow.{Flow};
 ghost use Rattle.group_search.specs.Build.{IsBuild};
-ghost use Rattle.replica_shard.specs.Table.{AreImagesOf, IsOwned, IsTableOf, group_record_at, group_record_in, home_in, node_at, node_in};
+ghost use Rattle.group_search.specs.Owned.{IsOwned};
+ghost use Rattle.replica_shard.specs.Table.{AreImagesOf, IsTableOf, group_record_at, group_record_in, home_in, node_at, node_in};
 
 use crate::routing::Route;
 use flow_types::{FlowKey, Shape};

@@ -20,10 +20,11 @@ use Rattle.group_history.proofs.Versions.{distinct-step}
 use Rattle.rib_owner.specs.declared.refused.UpdateRefused.{UpdateRefused}
 use Rattle.rib_owner.specs.declared.turn.Turn.{Turn}
 use Rattle.rib_owner.specs.declared.update.Update.{Update}
-use Rattle.rib_owner.specs.Acceptance.{change_at, grounds, grounds_in, key_of, refusal, refusal_of_place, wanted}
+use Rattle.rib_owner.specs.Acceptance.{change_at, grounds, grounds_in, updated_key, refusal, refusal_of_place, wanted}
 use Rattle.rib_owner.specs.Judging.{IsFor, refusal_in_rows}
-use Rattle.rib_owner.specs.Part.{IsKept, IsOwner, rows_left}
-use Rattle.rib_owner.specs.Rib.{IsOwned, IsPartOf, IsRibOf, Part, Rib, group_in, map_in, no_part, part_of}
+use Rattle.rib_owner.specs.Part.{IsKeptPart, IsOwner, rows_free}
+use Rattle.group_search.specs.Owned.{IsOwned}
+use Rattle.rib_owner.specs.Rib.{IsPartOf, IsRibOf, Part, Rib, group_in, map_in, no_part, part_of}
 use Rattle.rib_owner.specs.Turn.{IsTurn, plan_of}
 use Rattle.rib_owner.proofs.Answering.{answer_accepted, answer_place, answer_rows, turn_is}
 use Rattle.rib_owner.proofs.Counted.{map_within, with_map}
@@ -31,15 +32,15 @@ use Rattle.rib_owner.proofs.Judged.{few_after}
 use Rattle.rib_owner.proofs.Kept.{kept_with}
 use Rattle.rib_owner.proofs.Standing.{stands_for}
 
-module _ (bits turns : ℕ) (at : Home) (part : Part) (update : Update) (kept : IsKept bits part) (low : at.group < 64)
+module _ (bits turns : ℕ) (at : Home) (part : Part) (update : Update) (kept : IsKeptPart bits part) (low : at.group < 64)
     (there : refusal_of_place update (grounds_in bits turns at (map_in part) update) ≡ None) where
   -- the new map has at most as many keys as a block may
   pub small_after : length (step (map_in part at.group) (change_at at update)) ≤ 1536
   small_after = omega (arith, few_after bits turns at part kept update there, map_within (map_in part) at.group low, kept.few)
 
   pub kept_after : (content : GroupRecord) (map : List Flow) (rows : ℕ) → map ≡ step (map_in part at.group) (change_at at update)
-      → canonical bits (entries (step (map_in part at.group) (change_at at update))) ≡ Some content → rows ≡ rows_in content → rows_in content ≤ rows_left part at.group
-      → IsKept bits (with_map part at.group map rows)
+      → canonical bits (entries (step (map_in part at.group) (change_at at update))) ≡ Some content → rows ≡ rows_in content → rows_in content ≤ rows_free part at.group
+      → IsKeptPart bits (with_map part at.group map rows)
   kept_after content map rows map_is content_is rows_are room =
       let after = step (map_in part at.group) (change_at at update) in
       rw map_is
@@ -53,15 +54,15 @@ module _ (bits turns : ℕ) (at : Home) (part : Part) (update : Update) (kept : 
 
 -- where its key is kept, and the change that it makes
 pub record IsSeen (rib : Rib) (update : Update) (block group index : ℕ) (found : Part) (change : Change) : Type 0 where
-  pub block_is : block ≡ (place rib.size.blocks (key_of update)).block
+  pub block_is : block ≡ (place rib.size.blocks (updated_key update)).block
   pub index_is : index ≡ block / rib.size.nodes
   pub inside : index < length rib.parts
-  pub group_is : group ≡ group_in (part_of rib block) rib.size.blocks (key_of update)
+  pub group_is : group ≡ group_in (part_of rib block) rib.size.blocks (updated_key update)
   pub low : group < 64
   pub found_is : found ≡ part_of rib block
   pub change_is : change ≡ change_at (record { block = block; group = group }) update
 
-pub seen : (rib held : Rib) → held ≡ rib → (update : Update) (key : FlowKey) → key ≡ key_of update → (block group index : ℕ)
+pub seen : (rib held : Rib) → held ≡ rib → (update : Update) (key : FlowKey) → key ≡ updated_key update → (block group index : ℕ)
     → block ≡ (place rib.size.blocks key).block → index ≡ block / rib.size.nodes → index < length rib.parts
     → group ≡ group_in (part_of rib block) rib.size.blocks key → group < 64
     → (found : Part) → found ≡ get_or held.parts index found → (to : Option (ℕ × Record)) → to ≡ wanted update
@@ -76,21 +77,21 @@ seen rib held same update key key_is block group index block_is index_is inside 
       low = low;
       found_is = found_is ∙ ap (λ (ps : List Part). get_or ps index found) parts ∙ get_or_default rib.parts index found no_part inside
           ∙ ap (λ (i : ℕ). get_or rib.parts i no_part) index_is;
-      change_is = ap (λ (k : FlowKey). change_with block group k to) key_is ∙ ap (change_with block group (key_of update)) to_is;
+      change_is = ap (λ (k : FlowKey). change_with block group k to) key_is ∙ ap (change_with block group (updated_key update)) to_is;
     } where
       change_with : ℕ → ℕ → FlowKey → Option (ℕ × Record) → Change
       change_with b g k t = record { block = b; group = g; key = k; to = t }
 
 module _ (rib : Rib) (update : Update) (block group index : ℕ) (found : Part) (change : Change) (is_seen : IsSeen rib update block group index found change)
-    (owned : IsOwned rib.size rib.number (key_of update)) (some : 1 ≤ rib.size.nodes) (sound : IsOwner rib.size rib.number rib.parts) where
+    (owned : IsOwned rib.size rib.number (updated_key update)) (some : 1 ≤ rib.size.nodes) (sound : IsOwner rib.size rib.number rib.parts) where
   below : block < rib.size.blocks → (flows : List Flow) → IsRibOf rib.size flows rib → IsPartOf rib.size flows rib.journal.changes block found
   below low flows is =
       rw is_seen.found_is (is.parts block low (ap (λ (b : ℕ). b % rib.size.nodes) is_seen.block_is ∙ owned))
 
-  found_group : group ≡ group_in found rib.size.blocks (key_of update)
-  found_group = is_seen.group_is ∙ ap (λ (p : Part). group_in p rib.size.blocks (key_of update)) (sym is_seen.found_is)
+  found_group : group ≡ group_in found rib.size.blocks (updated_key update)
+  found_group = is_seen.group_is ∙ ap (λ (p : Part). group_in p rib.size.blocks (updated_key update)) (sym is_seen.found_is)
 
-  pub found_kept : IsKept (value_bits rib.size.nodes) found
+  pub found_kept : IsKeptPart (value_bits rib.size.nodes) found
   found_kept =
       rw (is_seen.found_is, ← is_seen.index_is) (sound.kept index no_part is_seen.inside)
 
@@ -101,21 +102,21 @@ module _ (rib : Rib) (update : Update) (block group index : ℕ) (found : Part) 
         (small_after (value_bits rib.size.nodes) 0 (record { block = block; group = group }) found update found_kept is_seen.low (there (value_bits rib.size.nodes) 0))
 
     pub seen_owner : (content : GroupRecord) (map : List Flow) (rows : ℕ) (new : Part) → map ≡ step (map_in found group) change
-        → canonical (value_bits rib.size.nodes) (entries (step (map_in found group) change)) ≡ Some content → rows ≡ rows_in content → rows_in content ≤ rows_left found group
+        → canonical (value_bits rib.size.nodes) (entries (step (map_in found group) change)) ≡ Some content → rows ≡ rows_in content → rows_in content ≤ rows_free found group
         → new ≡ with_map found group map rows → IsOwner rib.size rib.number (set rib.parts index new)
     seen_owner content map rows new map_is content_is rows_are room new_is =
-        let kept : IsKept (value_bits rib.size.nodes) (with_map found group map rows) =
+        let kept : IsKeptPart (value_bits rib.size.nodes) (with_map found group map rows) =
         kept_after (value_bits rib.size.nodes) 0 (record { block = block; group = group }) found update found_kept is_seen.low (there (value_bits rib.size.nodes) 0)
         content map rows (map_is ∙ ap (step (map_in found group)) is_seen.change_is)
         (ap (λ (c : Change). canonical (value_bits rib.size.nodes) (entries (step (map_in found group) c))) (sym is_seen.change_is) ∙ content_is) rows_are room in
         record {
           enough = omega (arith, sound.enough, ap (λ (n : ℕ). rib.size.nodes * n) (length-set rib.parts index new));
-          kept = rw new_is (All-set (IsKept (value_bits rib.size.nodes)) rib.parts index (with_map found group map rows) kept sound.kept);
+          kept = rw new_is (All-set (IsKeptPart (value_bits rib.size.nodes)) rib.parts index (with_map found group map rows) kept sound.kept);
         }
 
   -- ---- answers
 
-  module _ (low : (place rib.size.blocks (key_of update)).block < rib.size.blocks) (flows : List Flow) (is : IsRibOf rib.size flows rib) where
+  module _ (low : (place rib.size.blocks (updated_key update)).block < rib.size.blocks) (flows : List Flow) (is : IsRibOf rib.size flows rib) where
     part : IsPartOf rib.size flows rib.journal.changes block found
     part = below (omega (arith, is_seen.block_is)) flows is
 
@@ -143,7 +144,7 @@ module _ (rib : Rib) (update : Update) (block group index : ℕ) (found : Part) 
 
     pub seen_turn : (turn : Turn) → turn.number ≡ length rib.journal.changes + 1 → turn.change ≡ change
         → canonical (value_bits rib.size.nodes) (entries (step (map_in found group) change)) ≡ Some turn.content
-        → turn.fib ≡ plan_of update (flow_at (key_of update) (map_in found group)) → IsTurn rib.size flows rib.journal.changes update turn
+        → turn.fib ≡ plan_of update (flow_at (updated_key update) (map_in found group)) → IsTurn rib.size flows rib.journal.changes update turn
     seen_turn turn number change_same content fib =
         turn_is rib.size flows rib.journal.changes update block found group is_seen.block_is part found_group is_seen.low turn number (change_same ∙ is_seen.change_is)
         (ap (λ (c : Change). canonical (value_bits rib.size.nodes) (entries (step (map_in found group) c))) change_same ∙ content) fib
@@ -160,7 +161,7 @@ module _ (rib : Rib) (update : Update) (block group index : ℕ) (found : Part) 
         ap (λ (b : ℕ). b % rib.size.nodes) (block_same ∙ is_seen.block_is) ∙ owned in
         let place_same : index ≡ change.block / rib.size.nodes = is_seen.index_is ∙ ap (λ (b : ℕ). b / rib.size.nodes) (sym block_same) in
         let inside : change.block / rib.size.nodes < length rib.parts = rw (← place_same) is_seen.inside in
-        let kept : IsKept (value_bits rib.size.nodes) (part_of rib change.block) = rw (← found_same) found_kept in
+        let kept : IsKeptPart (value_bits rib.size.nodes) (part_of rib change.block) = rw (← found_same) found_kept in
         let new_part : replaced ≡ with_map (part_of rib change.block) change.group (step (map_in (part_of rib change.block) change.group) change) rows =
         replaced_is ∙ ap (λ (m : List Flow). with_map found group m rows) map_is
         ∙ ap (λ (g : ℕ). with_map found g (step (map_in found g) change) rows) (sym group_same)

@@ -15,10 +15,11 @@ use Rattle.rib_owner.specs.declared.refused.UpdateRefused.{UpdateRefused}
 use Rattle.rib_owner.specs.declared.refused.UpdateRefused.TheVariants.{Spent}
 use Rattle.rib_owner.specs.declared.turn.Turn.{Turn}
 use Rattle.rib_owner.specs.declared.update.Update.{Update}
-use Rattle.rib_owner.specs.Acceptance.{change_at, change_of, grounds, grounds_in, key_of, maps_now, refusal, refusal_of_place, refusal_of_rows}
+use Rattle.rib_owner.specs.Acceptance.{change_at, change_of, grounds, grounds_in, updated_key, maps_now, refusal, refusal_of_place, refusal_of_rows}
 use Rattle.rib_owner.specs.Judging.{IsFor, refusal_in_rows}
-use Rattle.rib_owner.specs.Part.{IsKept}
-use Rattle.rib_owner.specs.Rib.{IsOwned, IsPartOf, IsRibOf, Part, Rib, group_in, map_in, map_now, node_and_record, part_of}
+use Rattle.rib_owner.specs.Part.{IsKeptPart}
+use Rattle.group_search.specs.Owned.{IsOwned}
+use Rattle.rib_owner.specs.Rib.{IsPartOf, IsRibOf, Part, Rib, group_in, map_in, map_now, node_and_record, part_of}
 use Rattle.rib_owner.specs.Turn.{IsTurn, plan_of}
 use Rattle.rib_owner.proofs.Judged.{for_place, for_rows, grounds_same, lifted, rows_alike, spent}
 
@@ -47,11 +48,11 @@ module _ (size : Size) (flows : List Flow) (changes : List Change) (key : FlowKe
       ∙ ap (map_now size flows changes) (sym home_is)
 
 module _ (size : Size) (flows : List Flow) (changes : List Change) (update : Update) (block : ℕ) (part : Part) (group : ℕ)
-    (block_is : block ≡ (place size.blocks (key_of update)).block) (is : IsPartOf size flows changes block part)
-    (group_is : group ≡ group_in part size.blocks (key_of update)) (low : group < 64) where
-  at_is : home size.blocks flows (key_of update) ≡ record { block = block; group = group }
+    (block_is : block ≡ (place size.blocks (updated_key update)).block) (is : IsPartOf size flows changes block part)
+    (group_is : group ≡ group_in part size.blocks (updated_key update)) (low : group < 64) where
+  at_is : home size.blocks flows (updated_key update) ≡ record { block = block; group = group }
   at_is =
-      home_is size flows changes (key_of update) block part block_is is
+      home_is size flows changes (updated_key update) block part block_is is
       ∙ ap (λ (g : ℕ). let there : Home = record { block = block; group = g } in there) (sym group_is)
 
   pub change_is : change_at (record { block = block; group = group }) update ≡ change_of size flows update
@@ -80,7 +81,7 @@ module _ (size : Size) (flows : List Flow) (changes : List Change) (update : Upd
         (refusal update (grounds size flows changes update)) refused for
         (λ why. for_place update (grounds size flows changes update) not_last refused (ap (refusal_of_place update) grounds_are ∙ why))
 
-    module _ (kept : IsKept (value_bits size.nodes) part)
+    module _ (kept : IsKeptPart (value_bits size.nodes) part)
         (there : refusal_of_place update (grounds_in (value_bits size.nodes) (length changes) (record { block = block; group = group }) (map_in part) update) ≡ None) where
       rows_are : refusal update (grounds size flows changes update) ≡ refusal_in_rows (value_bits size.nodes) part (change_at (record { block = block; group = group }) update)
       rows_are =
@@ -102,16 +103,16 @@ module _ (size : Size) (flows : List Flow) (changes : List Change) (update : Upd
   pub turn_is : (turn : Turn) → turn.number ≡ length changes + 1
       → turn.change ≡ change_at (record { block = block; group = group }) update
       → canonical (value_bits size.nodes) (entries (step (map_in part group) turn.change)) ≡ Some turn.content
-      → turn.fib ≡ plan_of update (flow_at (key_of update) (map_in part group))
+      → turn.fib ≡ plan_of update (flow_at (updated_key update) (map_in part group))
       → IsTurn size flows changes update turn
   unfolding content_of
   turn_is turn number change content fib =
-      let map = map_is size flows changes (key_of update) block part block_is is group group_is low in
+      let map = map_is size flows changes (updated_key update) block part block_is is group group_is low in
       record {
         number = number;
         change = change ∙ change_is;
         content = ap (λ (m : List Flow). canonical (value_bits size.nodes) (entries (step m turn.change))) (sym map) ∙ content;
-        plan = fib ∙ ap (λ (m : List Flow). plan_of update (flow_at (key_of update) m)) map;
+        plan = fib ∙ ap (λ (m : List Flow). plan_of update (flow_at (updated_key update) m)) map;
       }
 
 -- what is found at a key is what its group's map has now

@@ -3,7 +3,7 @@ use Rattle.std.proofs.Common.{ℕ, zero, suc, replicate, ◌≡◌, ◌≢◌, �
 use Rattle.std.proofs.lemmas.List.{get_or-set_other, get_or-set_same}
 use Rattle.flow_types.specs.declared.record.Flow.{Flow}
 use Rattle.rib_owner.specs.Acceptance.{keys_in}
-use Rattle.rib_owner.specs.Part.{rows_left, rows_of}
+use Rattle.rib_owner.specs.Part.{rows_free, rows_taken}
 use Rattle.rib_owner.specs.Rib.{Part, map_in}
 use Rattle.rib_owner.proofs.Sums.{beside_same, from_same, sum_apart, sum_beside, sum_from, sum_more, sum_of_none}
 
@@ -15,12 +15,12 @@ pub keys_apart : (maps : ℕ → List Flow) (group : ℕ) → group < 64 → key
 unfolding keys_in
 keys_apart maps group low = sum_apart (λ (x : ℕ). length (maps x)) group 64 0 (omega arith) low
 
-pub rows_apart : (part : Part) (group : ℕ) → group < 64 → rows_of part ≡ sum_beside (λ (x : ℕ). get_or part.rows x 0) group 0 64 + get_or part.rows group 0
-unfolding rows_of
+pub rows_apart : (part : Part) (group : ℕ) → group < 64 → rows_taken part ≡ sum_beside (λ (x : ℕ). get_or part.rows x 0) group 0 64 + get_or part.rows group 0
+unfolding rows_taken
 rows_apart part group low = sum_apart (λ (x : ℕ). get_or part.rows x 0) group 64 0 (omega arith) low
 
-pub rows_left_is : (part : Part) (group : ℕ) → rows_left part group ≡ 64 - sum_beside (λ (x : ℕ). get_or part.rows x 0) group 0 64
-unfolding rows_left
+pub rows_left_is : (part : Part) (group : ℕ) → rows_free part group ≡ 64 - sum_beside (λ (x : ℕ). get_or part.rows x 0) group 0 64
+unfolding rows_free
 rows_left_is part group = refl
 
 -- a part with another map and another number of rows at a group
@@ -48,7 +48,7 @@ module _ (part : Part) (group rows : ℕ) (map : List Flow) (low : group < 64) (
       let here = ap length map_here in
       omega arith
 
-  pub rows_with : rows_of (with_map part group map rows) + get_or part.rows group 0 ≡ rows_of part + rows
+  pub rows_with : rows_taken (with_map part group map rows) + get_or part.rows group 0 ≡ rows_taken part + rows
   rows_with =
       let before = rows_apart part group low in
       let after = rows_apart (with_map part group map rows) group low in
@@ -60,7 +60,7 @@ module _ (part : Part) (group rows : ℕ) (map : List Flow) (low : group < 64) (
 pub map_within : (maps : ℕ → List Flow) (group : ℕ) → group < 64 → length (maps group) ≤ keys_in maps
 map_within maps group low = omega (arith, keys_apart maps group low)
 
-pub rows_within : (part : Part) (group : ℕ) → group < 64 → get_or part.rows group 0 ≤ rows_of part
+pub rows_within : (part : Part) (group : ℕ) → group < 64 → get_or part.rows group 0 ≤ rows_taken part
 rows_within part group low = omega (arith, rows_apart part group low)
 
 -- ---- one more flow in a group
@@ -82,9 +82,9 @@ module _ (part : Part) (group : ℕ) (flow : Flow) (low : group < 64) (maps_ther
       omega (arith, before, after, others, here)
 
 -- the rows are a matter of the numbers alone
-pub rows_same : (part other : Part) → part.rows ≡ other.rows → rows_of part ≡ rows_of other
-unfolding rows_of
-rows_same part other same = ap (λ (rs : List ℕ). rows_of (record { choices = []; maps = []; rows = rs })) same
+pub rows_same : (part other : Part) → part.rows ≡ other.rows → rows_taken part ≡ rows_taken other
+unfolding rows_taken
+rows_same part other same = ap (λ (rs : List ℕ). rows_taken (record { choices = []; maps = []; rows = rs })) same
 
 -- ---- a block without flows
 
@@ -100,8 +100,8 @@ pub no_keys : (maps : ℕ → List Flow) → ((x : ℕ) → maps x ≡ []) → k
 unfolding keys_in
 no_keys maps none = sum_of_none (λ (x : ℕ). length (maps x)) 64 0 (λ x. ap length (none x))
 
-pub rows_are : (part : Part) (used : ℕ) → used ≡ sum_from (λ (x : ℕ). get_or part.rows x 0) 0 64 → used ≡ rows_of part
-unfolding rows_of
+pub rows_are : (part : Part) (used : ℕ) → used ≡ sum_from (λ (x : ℕ). get_or part.rows x 0) 0 64 → used ≡ rows_taken part
+unfolding rows_taken
 rows_are part used is = is
 
 -- one more group's rows are written

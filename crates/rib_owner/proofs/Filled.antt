@@ -29,7 +29,7 @@ use Rattle.group_history.specs.History.{changed, now}
 use Rattle.group_history.specs.Journal.{Log, concerning}
 use Rattle.rib_owner.specs.Acceptance.{keys_in}
 use Rattle.rib_owner.specs.Opening.{AreFilled, IsFilled, read_of}
-use Rattle.rib_owner.specs.Part.{IsKept, IsOwner, rows_of}
+use Rattle.rib_owner.specs.Part.{IsKeptPart, IsOwner, rows_taken}
 use Rattle.rib_owner.specs.Rib.{IsRibOf, Part, map_in, map_now, no_part}
 use Rattle.rib_owner.proofs.Counted.{keys_pushed, no_keys, no_map}
 use Rattle.rib_owner.proofs.Gathered.{nobody}
@@ -283,8 +283,8 @@ module _ (size : Size) (number : ℕ) (flows : List Flow) (some : 1 ≤ size.nod
     within : (block : ℕ) → block < size.blocks → IsWithin size flows block
     within = within_of (past_limit size flows) build.within (names_the_first size flows)
 
-    rows_total : (block : ℕ) (part : Part) → IsFilled size flows flows block part → rows_of part ≡ needed size flows block
-    unfolding rows_of needed
+    rows_total : (block : ℕ) (part : Part) → IsFilled size flows flows block part → rows_taken part ≡ needed size flows block
+    unfolding rows_taken needed
     rows_total block part is =
         from_same (λ (x : ℕ). slice_index part.rows x)
         (λ (x : ℕ). rows_needed (value_bits size.nodes) (entries (opening size.blocks flows (record { block = block; group = x })))) 64 0 (λ x low high. is.rows x (omega arith))
@@ -301,7 +301,7 @@ module _ (size : Size) (number : ℕ) (flows : List Flow) (some : 1 ≤ size.nod
         (λ (high : 64 ≤ group). subst AreDistinct (sym (get_or_past part.maps group empty_map (omega (arith, is.one_map_each)))) (λ a b d below inside. absurd (omega arith)))
         (cases_lt group 64)
 
-    kept_of : (block : ℕ) (part : Part) → block < size.blocks → IsFilled size flows flows block part → IsKept (value_bits size.nodes) part
+    kept_of : (block : ℕ) (part : Part) → block < size.blocks → IsFilled size flows flows block part → IsKeptPart (value_bits size.nodes) part
     kept_of block part low is =
         let limits = within block low in
         record {

@@ -15,9 +15,9 @@ use Rattle.rib_owner.specs.declared.refused.UpdateRefused.{UpdateRefused}
 use Rattle.rib_owner.specs.declared.refused.UpdateRefused.TheVariants.{Spent, Absent, BlockFull, RowsFull, OutOfMemory}
 use Rattle.rib_owner.specs.declared.update.Update.{Update}
 use Rattle.rib_owner.specs.declared.update.Update.TheVariants.{Set, Del}
-use Rattle.rib_owner.specs.Acceptance.{Grounds, change_at, free_beside, grounds_in, key_of, keys_in, refusal, refusal_of_place, refusal_of_rows}
+use Rattle.rib_owner.specs.Acceptance.{Grounds, change_at, free_beside, grounds_in, updated_key, keys_in, refusal, refusal_of_place, refusal_of_rows}
 use Rattle.rib_owner.specs.Judging.{IsFor, refusal_in_rows}
-use Rattle.rib_owner.specs.Part.{IsKept}
+use Rattle.rib_owner.specs.Part.{IsKeptPart}
 use Rattle.rib_owner.specs.Rib.{Part, map_in}
 use Rattle.rib_owner.proofs.Rows.{left_is_free, length-entries}
 use Rattle.rib_owner.proofs.Steps.{step_known, step_most}
@@ -46,7 +46,7 @@ unfolding grounds_in grounds_of
 grounds_same bits turns at maps others update low same =
     let here = same at.group low in
     let with : List Flow → ℕ → ℕ → Grounds = λ m keys free.
-    grounds_of turns at.block (is_some (flow_at (key_of update) m)) keys (is_separable bits (entries (step m (change_at at update)))) (length (step m (change_at at update))) free in
+    grounds_of turns at.block (is_some (flow_at (updated_key update) m)) keys (is_separable bits (entries (step m (change_at at update)))) (length (step m (change_at at update))) free in
     ap (λ (m : List Flow). with m (keys_in maps) (free_beside bits maps at.group)) here
     ∙ ap (λ (k : ℕ). with (others at.group) k (free_beside bits maps at.group)) (keys_same maps others same)
     ∙ ap (λ (f : ℕ). with (others at.group) (keys_in others) f) (free_same bits at.group maps others same)
@@ -82,7 +82,7 @@ rows-case : (block needed free : ℕ) (served : Bool)
 rows-case block needed free true = rw (le-ltb free 0 (omega arith)) refl
 rows-case block needed free false = refl
 
-module _ (bits turns : ℕ) (at : Home) (part : Part) (update : Update) (kept : IsKept bits part) where
+module _ (bits turns : ℕ) (at : Home) (part : Part) (update : Update) (kept : IsKeptPart bits part) where
   pub rows_alike : refusal_in_rows bits part (change_at at update) ≡ refusal_of_rows (grounds_in bits turns at (map_in part) update)
   unfolding refusal_in_rows rows_needed grounds_in
   rows_alike =
@@ -91,7 +91,7 @@ module _ (bits turns : ℕ) (at : Home) (part : Part) (update : Update) (kept : 
       (rows-case at.block (length after) (free_beside bits (map_in part) at.group) (is_separable bits (entries after)))
   -- ---- how many keys there are after an update whose key has a place
 
-module _ (bits turns : ℕ) (at : Home) (part : Part) (kept : IsKept bits part) where
+module _ (bits turns : ℕ) (at : Home) (part : Part) (kept : IsKeptPart bits part) where
   few-full : (flow : Flow) (full : Bool) → (keys_in (map_in part) == 1536) ≡ full → cond full (Some (BlockFull at.block)) None ≡ None
       → keys_in (map_in part) + length (step (map_in part at.group) (change_at at (Set flow))) ≤ 1536 + length (map_in part at.group)
   few-full flow true e none = cc
@@ -99,7 +99,7 @@ module _ (bits turns : ℕ) (at : Home) (part : Part) (kept : IsKept bits part) 
       let apart : keys_in (map_in part) ≢ 1536 = eqb-false _ _ e in
       omega (arith, kept.few, step_most (map_in part at.group) (change_at at (Set flow)))
 
-  few-case : (update : Update) (known served : Bool) (needed free : ℕ) → is_some (flow_at (key_of update) (map_in part at.group)) ≡ known
+  few-case : (update : Update) (known served : Bool) (needed free : ℕ) → is_some (flow_at (updated_key update) (map_in part at.group)) ≡ known
       → refusal_of_place update (grounds_of turns at.block known (keys_in (map_in part)) served needed free) ≡ None
       → keys_in (map_in part) + length (step (map_in part at.group) (change_at at update)) ≤ 1536 + length (map_in part at.group)
   unfolding grounds_of
@@ -113,7 +113,7 @@ module _ (bits turns : ℕ) (at : Home) (part : Part) (kept : IsKept bits part) 
       → keys_in (map_in part) + length (step (map_in part at.group) (change_at at update)) ≤ 1536 + length (map_in part at.group)
   unfolding grounds_in grounds_of
   few_after update none =
-      few-case update (is_some (flow_at (key_of update) (map_in part at.group))) (is_separable bits (entries (step (map_in part at.group) (change_at at update))))
+      few-case update (is_some (flow_at (updated_key update) (map_in part at.group))) (is_separable bits (entries (step (map_in part at.group) (change_at at update))))
       (length (step (map_in part at.group) (change_at at update))) (free_beside bits (map_in part) at.group) refl none
 
 -- ---- the place of a key, by what was found at it
@@ -123,7 +123,7 @@ module _ (bits turns : ℕ) (at : Home) (maps : ℕ → List Flow) where
   known-case (Set flow) on known = rw known refl
   known-case (Del key) on known = rw known refl
 
-  pub place_known : (update : Update) → is_some (flow_at (key_of update) (maps at.group)) ≡ true → refusal_of_place update (grounds_in bits turns at maps update) ≡ None
+  pub place_known : (update : Update) → is_some (flow_at (updated_key update) (maps at.group)) ≡ true → refusal_of_place update (grounds_in bits turns at maps update) ≡ None
   unfolding grounds_in
   place_known update known = known-case update (grounds_in bits turns at maps update) known
 

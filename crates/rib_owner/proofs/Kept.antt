@@ -7,11 +7,11 @@ use Rattle.flow_types.specs.Map.{AreDistinct}
 use Rattle.group_search.specs.Build.{rows_needed}
 use Rattle.group_search.specs.Records.{entries}
 use Rattle.rib_owner.specs.Acceptance.{keys_in}
-use Rattle.rib_owner.specs.Part.{IsKept, rows_left}
+use Rattle.rib_owner.specs.Part.{IsKeptPart, rows_free}
 use Rattle.rib_owner.specs.Rib.{Part, map_in}
 use Rattle.rib_owner.proofs.Counted.{keys_with, map_beside, map_here, rows_apart, rows_beside, rows_here, rows_left_is, rows_with, with_map}
 
-module _ (bits : ℕ) (part : Part) (group rows : ℕ) (map : List Flow) (low : group < 64) (kept : IsKept bits part) where
+module _ (bits : ℕ) (part : Part) (group rows : ℕ) (map : List Flow) (low : group < 64) (kept : IsKeptPart bits part) where
   here : map_in (with_map part group map rows) group ≡ map
   here = map_here part group rows map low kept.one_map_each kept.one_number_each
 
@@ -19,7 +19,7 @@ module _ (bits : ℕ) (part : Part) (group rows : ℕ) (map : List Flow) (low : 
   beside other ne = map_beside part group rows map low kept.one_map_each kept.one_number_each other ne
 
   pub kept_with : AreDistinct map → keys_in (map_in part) + length map ≤ 1536 + length (map_in part group) → rows ≡ rows_needed bits (entries map)
-      → rows ≤ rows_left part group → IsKept bits (with_map part group map rows)
+      → rows ≤ rows_free part group → IsKeptPart bits (with_map part group map rows)
   kept_with distinct few rows_is room = record {
     one_map_each = length-set part.maps group map ∙ kept.one_map_each;
     one_number_each = length-set part.rows group rows ∙ kept.one_number_each;

@@ -9,7 +9,7 @@ use Rattle.rib_owner.specs.declared.refused.UpdateRefused.{UpdateRefused}
 use Rattle.rib_owner.specs.declared.refused.UpdateRefused.TheVariants.{Spent, Absent, BlockFull, RowsFull, OutOfMemory}
 use Rattle.rib_owner.specs.declared.update.Update.{Update}
 use Rattle.rib_owner.specs.declared.update.Update.TheVariants.{Set, Del}
-use Rattle.rib_owner.specs.Acceptance.{ComesTo, Grounds, HasPlace, NeedsRows, OneCaseHolds, refusal, refusal_of_place, refusal_of_rows}
+use Rattle.rib_owner.specs.Acceptance.{ComesTo, Grounds, HasPlace, NeedsMoreRows, OneCaseHolds, refusal, refusal_of_place, refusal_of_rows}
 use Rattle.rib_owner.proofs.Judged.{for_place, for_rows, spent}
 
 place_set : (flow : Flow) (on : Grounds) (known : Bool) → on.known ≡ known → HasPlace (Set flow) on → refusal_of_place (Set flow) on ≡ None
@@ -20,15 +20,15 @@ place_none : (update : Update) (on : Grounds) → HasPlace update on → refusal
 place_none (Set flow) on place = place_set flow on on.known refl place
 place_none (Del key) on place = rw place refl
 
-rows_some : (on : Grounds) → NeedsRows on → refusal_of_rows on ≡ Some (RowsFull on.block on.needed on.free)
+rows_some : (on : Grounds) → NeedsMoreRows on → refusal_of_rows on ≡ Some (RowsFull on.block on.needed on.free)
 rows_some on needs = rw (needs.not_served, lt-ltb on.free on.needed needs.more) refl
 
-rows_none-case : (on : Grounds) (served more : Bool) → on.served ≡ served → nat_lt on.free on.needed ≡ more → ¬ NeedsRows on → refusal_of_rows on ≡ None
+rows_none-case : (on : Grounds) (served more : Bool) → on.served ≡ served → nat_lt on.free on.needed ≡ more → ¬ NeedsMoreRows on → refusal_of_rows on ≡ None
 rows_none-case on true more e f enough = rw e refl
 rows_none-case on false true e f enough = absurd (enough (record { not_served = e; more = ltb-true on.free on.needed f }))
 rows_none-case on false false e f enough = rw (e, f) refl
 
-rows_none : (on : Grounds) → ¬ NeedsRows on → refusal_of_rows on ≡ None
+rows_none : (on : Grounds) → ¬ NeedsMoreRows on → refusal_of_rows on ≡ None
 rows_none on enough = rows_none-case on on.served (nat_lt on.free on.needed) refl refl enough
 
 -- a case that holds is the one that is named

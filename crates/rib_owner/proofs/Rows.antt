@@ -13,7 +13,7 @@ use Rattle.group_history.specs.Change.{step}
 use Rattle.rib_owner.specs.declared.refused.UpdateRefused.TheVariants.{RowsFull}
 use Rattle.rib_owner.specs.Acceptance.{free_beside}
 use Rattle.rib_owner.specs.Judging.{refusal_in_rows}
-use Rattle.rib_owner.specs.Part.{IsKept, rows_left}
+use Rattle.rib_owner.specs.Part.{IsKeptPart, rows_free}
 use Rattle.rib_owner.specs.Rib.{Part, map_in}
 use Rattle.rib_owner.proofs.Counted.{rows_left_is}
 use Rattle.rib_owner.proofs.Sums.{beside_below}
@@ -34,24 +34,24 @@ module _ (bits : ℕ) (part : Part) (change : Change) where
   after : List Flow
   after = step (map_in part change.group) change
 
-  pub rows_refused : (needed free : ℕ) → free ≡ rows_left part change.group → needed ≡ rows_needed bits (entries (step (map_in part change.group) change)) → free < needed
+  pub rows_refused : (needed free : ℕ) → free ≡ rows_free part change.group → needed ≡ rows_needed bits (entries (step (map_in part change.group) change)) → free < needed
       → refusal_in_rows bits part change ≡ Some (RowsFull change.block needed free)
   unfolding refusal_in_rows
   rows_refused needed free free_is needed_is more =
       let all : needed ≡ length (step (map_in part change.group) change) =
       needed_is ∙ needed_all bits (entries (step (map_in part change.group) change)) (omega arith) ∙ length-entries (step (map_in part change.group) change) in
-      let test : nat_lt (rows_left part change.group) (rows_needed bits (entries (step (map_in part change.group) change))) ≡ true = lt-ltb _ _ (omega arith) in
+      let test : nat_lt (rows_free part change.group) (rows_needed bits (entries (step (map_in part change.group) change))) ≡ true = lt-ltb _ _ (omega arith) in
       rw (test, ← all, ← free_is) refl
 
-  pub rows_allowed : (needed free : ℕ) → free ≡ rows_left part change.group → needed ≡ rows_needed bits (entries (step (map_in part change.group) change)) → needed ≤ free
+  pub rows_allowed : (needed free : ℕ) → free ≡ rows_free part change.group → needed ≡ rows_needed bits (entries (step (map_in part change.group) change)) → needed ≤ free
       → refusal_in_rows bits part change ≡ None
   unfolding refusal_in_rows
   rows_allowed needed free free_is needed_is few =
-      let test : nat_lt (rows_left part change.group) (rows_needed bits (entries (step (map_in part change.group) change))) ≡ false = le-ltb _ _ (omega arith) in
+      let test : nat_lt (rows_free part change.group) (rows_needed bits (entries (step (map_in part change.group) change))) ≡ false = le-ltb _ _ (omega arith) in
       rw test refl
 
 -- the rows that are left beside a group are those that the other groups don't need
-pub left_is_free : (bits : ℕ) (part : Part) (group : ℕ) → IsKept bits part → rows_left part group ≡ free_beside bits (map_in part) group
+pub left_is_free : (bits : ℕ) (part : Part) (group : ℕ) → IsKeptPart bits part → rows_free part group ≡ free_beside bits (map_in part) group
 unfolding free_beside
 left_is_free bits part group kept =
     rows_left_is part group

@@ -20,9 +20,9 @@ use Rattle.rib_owner.specs.declared.refused.UpdateRefused.TheVariants.{Spent, Ab
 use Rattle.rib_owner.specs.Rib.{map_now}
 
 -- the key that an update is of
-abbrev pub key_of : Update → FlowKey
-key_of (Set flow) = flow.key
-key_of (Del key) = key
+abbrev pub updated_key : Update → FlowKey
+updated_key (Set flow) = flow.key
+updated_key (Del key) = key
 
 -- what the key shall have
 abbrev pub wanted : Update → Option (ℕ × Record)
@@ -31,11 +31,11 @@ wanted (Del key) = None
 
 -- the change that an update makes, at this home of its key
 abbrev pub change_at : Home → Update → Change
-change_at at update = record { block = at.block; group = at.group; key = key_of update; to = wanted update }
+change_at at update = record { block = at.block; group = at.group; key = updated_key update; to = wanted update }
 
 -- the change that an update makes, where the cluster was opened with these flows
 abbrev pub change_of : Size → List Flow → Update → Change
-change_of size flows update = change_at (home size.blocks flows (key_of update)) update
+change_of size flows update = change_at (home size.blocks flows (updated_key update)) update
 
 -- ---- what an update is judged by
 
@@ -66,7 +66,7 @@ grounds_in bits turns at maps update =
     record {
       turns = turns;
       block = at.block;
-      known = is_some (flow_at (key_of update) (maps at.group));
+      known = is_some (flow_at (updated_key update) (maps at.group));
       keys = keys_in maps;
       served = is_separable bits (entries after);
       needed = length after;
@@ -80,7 +80,7 @@ maps_now size flows changes block group = map_now size flows changes (record { b
 -- the grounds on which an update is judged after these changes
 unfoldable pub grounds : Size → List Flow → List Change → Update → Grounds
 grounds size flows changes update =
-    let at = home size.blocks flows (key_of update) in
+    let at = home size.blocks flows (updated_key update) in
     grounds_in (value_bits size.nodes) (length changes) at (maps_now size flows changes at.block) update
 
 -- ---- the cases in their order
@@ -108,7 +108,7 @@ HasPlace (Set flow) on = on.known ≡ false → on.keys ≢ 1536
 HasPlace (Del key) on = on.known ≡ true
 
 -- no indexes serve the new map, and it has more keys than rows are free
-pub record NeedsRows (on : Grounds) : Type 0 where
+pub record NeedsMoreRows (on : Grounds) : Type 0 where
   pub not_served : on.served ≡ false
   pub more : on.free < on.needed
 
@@ -116,7 +116,7 @@ pub record NeedsRows (on : Grounds) : Type 0 where
 pub record IsRowsFull (update : Update) (on : Grounds) (block needed free : ℕ) : Type 0 where
   pub not_spent : on.turns ≢ 65535
   pub place : HasPlace update on
-  pub rows : NeedsRows on
+  pub rows : NeedsMoreRows on
   pub block_is : block ≡ on.block
   pub needed_is : needed ≡ on.needed
   pub free_is : free ≡ on.free
@@ -125,7 +125,7 @@ pub record IsRowsFull (update : Update) (on : Grounds) (block needed free : ℕ)
 pub record IsAccepted (update : Update) (on : Grounds) : Type 0 where
   pub not_spent : on.turns ≢ 65535
   pub place : HasPlace update on
-  pub rows : ¬ NeedsRows on
+  pub rows : ¬ NeedsMoreRows on
 
 -- what an update comes to on these grounds: `None` where it is accepted, and else its refusal
 abbrev pub ComesTo : Update → Grounds → Option UpdateRefused → Type 0

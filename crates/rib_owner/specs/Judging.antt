@@ -6,7 +6,7 @@ use Rattle.group_history.specs.declared.change.Change.{Change}
 use Rattle.group_history.specs.Change.{step}
 use Rattle.rib_owner.specs.declared.refused.UpdateRefused.{UpdateRefused}
 use Rattle.rib_owner.specs.declared.refused.UpdateRefused.TheVariants.{Spent, Absent, BlockFull, RowsFull, OutOfMemory}
-use Rattle.rib_owner.specs.Part.{rows_left}
+use Rattle.rib_owner.specs.Part.{rows_free}
 use Rattle.rib_owner.specs.Rib.{Part, map_in}
 
 -- a refusal for a cause, or want of memory, which has none
@@ -26,4 +26,4 @@ Follows why (Err refused) = IsFor why refused
 unfoldable pub refusal_in_rows : (bits : ℕ) → Part → Change → Option UpdateRefused
 refusal_in_rows bits part change =
     let after = step (map_in part change.group) change in
-    if nat_lt (rows_left part change.group) (rows_needed bits (entries after)) then Some (RowsFull change.block (length after) (rows_left part change.group)) else None
+    if nat_lt (rows_free part change.group) (rows_needed bits (entries after)) then Some (RowsFull change.block (length after) (rows_free part change.group)) else None

@@ -28,9 +28,6 @@ pub record Rib : Type 0 where
 abbrev pub is_owned : Size → (number : ℕ) → FlowKey → Bool
 is_owned size number key = (place size.blocks key).block % size.nodes == number
 
-abbrev pub IsOwned : Size → (number : ℕ) → FlowKey → Type 0
-IsOwned size number key = (place size.blocks key).block % size.nodes ≡ number
-
 abbrev pub no_part : Part
 no_part = record { choices = []; maps = []; rows = [] }
 

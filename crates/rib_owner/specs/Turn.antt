@@ -12,7 +12,7 @@ use Rattle.rib_owner.specs.declared.update.Update.TheVariants.{Set, Del}
 use Rattle.rib_owner.specs.declared.turn.Turn.{Turn}
 use Rattle.rib_owner.specs.declared.turn.FibPlan.{FibPlan}
 use Rattle.rib_owner.specs.declared.refused.UpdateRefused.{UpdateRefused}
-use Rattle.rib_owner.specs.Acceptance.{change_of, grounds, key_of, refusal}
+use Rattle.rib_owner.specs.Acceptance.{change_of, grounds, updated_key, refusal}
 use Rattle.rib_owner.specs.Judging.{IsFor}
 use Rattle.rib_owner.specs.Rib.{map_now}
 
@@ -35,10 +35,10 @@ plan_of update before = record { put = node_entered update; drop = node_left upd
 pub record IsTurn (size : Size) (flows : List Flow) (changes : List Change) (update : Update) (turn : Turn) : Type 0 where
   pub number : turn.number ≡ length changes + 1
   pub change : turn.change ≡ change_of size flows update
-  pub content : content_of size.nodes (step (map_now size flows changes (home size.blocks flows (key_of update))) turn.change) ≡ Some turn.content
-  pub plan : turn.fib ≡ plan_of update (flow_at (key_of update) (map_now size flows changes (home size.blocks flows (key_of update))))
+  pub content : content_of size.nodes (step (map_now size flows changes (home size.blocks flows (updated_key update))) turn.change) ≡ Some turn.content
+  pub plan : turn.fib ≡ plan_of update (flow_at (updated_key update) (map_now size flows changes (home size.blocks flows (updated_key update))))
 
 -- an owner's answer: the next turn where the update is accepted, its refusal where it is refused, or want of memory
-abbrev pub Answers : Size → List Flow → List Change → Update → Result Turn UpdateRefused → Type 0
-Answers size flows changes update (Ok turn) = (refusal update (grounds size flows changes update) ≡ None) × IsTurn size flows changes update turn
-Answers size flows changes update (Err refused) = IsFor (refusal update (grounds size flows changes update)) refused
+abbrev pub AnswersUpdate : Size → List Flow → List Change → Update → Result Turn UpdateRefused → Type 0
+AnswersUpdate size flows changes update (Ok turn) = (refusal update (grounds size flows changes update) ≡ None) × IsTurn size flows changes update turn
+AnswersUpdate size flows changes update (Err refused) = IsFor (refusal update (grounds size flows changes update)) refused

@@ -7,7 +7,7 @@ ghost use Rattle.group_search.specs.Home.{group_of};
 ghost use Rattle.group_search.specs.Records.{entries};
 ghost use Rattle.group_history.specs.Change.{step};
 ghost use Rattle.rib_owner.specs.Acceptance.{keys_in};
-ghost use Rattle.rib_owner.specs.Part.{rows_left, rows_of};
+ghost use Rattle.rib_owner.specs.Part.{rows_free, rows_taken};
 ghost use Rattle.rib_owner.specs.Rib.{map_in};
 
 use crate::map::GroupMap;
@@ -106,8 +106,8 @@ impl OwnedBlock {
     /// How many of the 64 rows the groups other than this one leave.
     pub(crate) fn rows_left(&self, group: u8) -> usize
         requires in_range { group < 64 }
-        requires few { rows_of self.now ≤ 64 }
-        ensures value { result ≡ rows_left self.now group }
+        requires few { rows_taken self.now ≤ 64 }
+        ensures value { result ≡ rows_free self.now group }
         ensures most { result ≤ 64 }
     {
         MOST_ROWS - (self.used - self.rows[group as usize] as usize)
@@ -144,7 +144,7 @@ impl OwnedBlock {
         requires in_range { group < 64 }
         requires few { keys_in (map_in self.old) ≤ 1536 }
         requires small { length map ≤ 1536 }
-        requires few_rows { rows_of self.old ≤ 64 }
+        requires few_rows { rows_taken self.old ≤ 64 }
         ensures { self.new ≡ record self.old { maps = slice_set self.old.maps group map; rows = slice_set self.old.rows group rows } }
     {
         let at = group as usize;

@@ -7,7 +7,7 @@ ghost use Rattle.group_search.specs.Records.{entries};
 ghost use Rattle.group_history.specs.Change.{step};
 ghost use Rattle.rib_owner.specs.Acceptance.{change_at, grounds_in, refusal_of_place};
 ghost use Rattle.rib_owner.specs.Judging.{Follows, refusal_in_rows};
-ghost use Rattle.rib_owner.specs.Part.{IsKept, rows_left};
+ghost use Rattle.rib_owner.specs.Part.{IsKeptPart, rows_free};
 ghost use Rattle.rib_owner.specs.Rib.{map_in};
 
 use crate::block::OwnedBlock;
@@ -48,12 +48,12 @@ pub(crate) fn fitting_record(
 ) -> Result<GroupRecord, UpdateRefused>
     requires enough_bits { 1 ≤ bits }
     requires few_bits { bits ≤ most_value_bits }
-    requires kept { IsKept bits block.now }
+    requires kept { IsKeptPart bits block.now }
     requires in_range { change.now.group < 64 }
     requires few { length (step (map_in block.now change.now.group) change.now) ≤ 1536 }
     ensures rows { Follows (refusal_in_rows bits block.now change.now) result }
     ensures record { IfOk result (λ content. canonical bits (entries (step (map_in block.now change.now.group) change.now)) ≡ Some content) }
-    ensures free { IfOk result (λ content. rows_in content ≤ rows_left block.now change.now.group) }
+    ensures free { IfOk result (λ content. rows_in content ≤ rows_free block.now change.now.group) }
 {
     let free = block.rows_left(change.group);
     block.gather(change.group, change, room)?;

@@ -3,9 +3,10 @@ ghost use Rattle.flow_types.specs.declared.record.Flow.{Flow};
 ghost use Rattle.flow_types.specs.Map.{flow_at};
 ghost use Rattle.hash_family.specs.Hash as hash;
 ghost use Rattle.group_search.specs.Home.{home};
-ghost use Rattle.rib_owner.specs.Acceptance.{key_of};
-ghost use Rattle.rib_owner.specs.Rib.{IsOwned, IsRibOf, found_in, group_in, is_owned, map_now, node_and_record, part_of};
-ghost use Rattle.rib_owner.specs.Turn.{Answers};
+ghost use Rattle.rib_owner.specs.Acceptance.{updated_key};
+ghost use Rattle.group_search.specs.Owned.{IsOwned};
+ghost use Rattle.rib_owner.specs.Rib.{IsRibOf, found_in, group_in, is_owned, map_now, node_and_record, part_of};
+ghost use Rattle.rib_owner.specs.Turn.{AnswersUpdate};
 
 use crate::block::OwnedBlock;
 use crate::judging::{check_place, fitting_record};
@@ -34,14 +35,14 @@ pub struct Owner {
 }
 
 impl Model for Owner {
-    ghost use Rattle.rib_owner.specs.Part.{IsSound};
+    ghost use Rattle.rib_owner.specs.Part.{IsSoundRib};
     ghost use Rattle.rib_owner.specs.Rib.{Rib};
 
     ghost Value = { Rib };
 
     ghost view = { λ o. record { size = o.shape; number = o.number; parts = o.blocks.items; journal = o.journal } };
 
-    ghost invariant = { λ o. IsSound o.shape o.number o.blocks.items o.journal.changes };
+    ghost invariant = { λ o. IsSoundRib o.shape o.number o.blocks.items o.journal.changes };
 }
 
 /// Where an owner keeps a key: the place of its block among the owner's, and its home.
@@ -106,8 +107,8 @@ impl Owner {
     /// Accepts an update of a key that the owner owns, or refuses it for the first of the causes of `UpdateRefused` that
     /// holds. The node of a key that is set is one of the cluster's.
     pub fn accept(&mut self, update: Update) -> Result<Turn, UpdateRefused>
-        requires owns { IsOwned self.old.size self.old.number (key_of update) }
-        ensures answer { (flows : List Flow) → IsRibOf self.old.size flows self.old → Answers self.old.size flows self.old.journal.changes update result }
+        requires owns { IsOwned self.old.size self.old.number (updated_key update) }
+        ensures answer { (flows : List Flow) → IsRibOf self.old.size flows self.old → AnswersUpdate self.old.size flows self.old.journal.changes update result }
         ensures stands { (flows : List Flow) → IsRibOf self.old.size flows self.old → IsRibOf self.old.size flows self.new }
         ensures journal { IfOk result (λ turn. self.new.journal.changes ≡ self.old.journal.changes ++ turn.change ∷ []) }
         ensures size { self.new.size ≡ self.old.size }

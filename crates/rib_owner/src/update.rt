@@ -1,5 +1,5 @@
 ghost use Rattle.std.specs.Prelude.{◌≡◌};
-ghost use Rattle.rib_owner.specs.Acceptance.{key_of, wanted};
+ghost use Rattle.rib_owner.specs.Acceptance.{updated_key, wanted};
 
 use flow_types::{Flow, FlowKey, Record};
 
@@ -15,7 +15,7 @@ pub enum Update {
 impl Update {
     /// The key that the update is of.
     pub fn key(&self) -> FlowKey
-        ensures { result ≡ key_of self.now }
+        ensures { result ≡ updated_key self.now }
     {
         match self {
             Update::Set(flow) => flow.key,

@@ -2,13 +2,13 @@
 ghost use Rattle.std.specs.Prelude.{◌≡◌, ℕ, ◌+◌, ◌^◌, ◌<◌, ◌≤◌, ◌∷◌, [], ◌++◌, IfErr, IfOk, length, slice_index};
 ghost use Rattle.group_search.specs.Home.{Home};
 ghost use Rattle.group_search.specs.Published.{Extends};
-ghost use Rattle.group_cell.specs.Layout.{home};
+ghost use Rattle.group_cell.specs.Layout.{home_of};
 ghost use Rattle.group_cell.specs.Layout as layout;
 ghost use Rattle.group_cell.specs.Rule.{bits_of, latest, HasLoad, HasLoaded, IsEven, IsIn};
 ghost use Rattle.group_cell.specs.Plays.{reader_view, IsReader, looked};
 ghost use Rattle.group_cell.specs.Plays as plays;
 ghost use Rattle.group_cell.specs.Seating.{GoesOn, HasBegun, IsAt, IsFound, IsLooking, Reads, loads_of, the_look};
-ghost use Rattle.group_cell.specs.Seats.{Answers, Changes, IsReaderOf, looks, opened, seen, the_group};
+ghost use Rattle.group_cell.specs.Seats.{FindsNode, Changes, IsReaderOf, looks, opened_with, seen, the_group};
 
 use crate::layout::{DATA_WORDS, PLACES, data_word, high_word, low_word, sequence_word, tag};
 use crate::plays::{EndLook, Load, Place, Shelf, StartLook};
@@ -20,9 +20,9 @@ use flow_types::FlowKey;
 // Loads the group's sequence word.
 fn begin(shelf: &Shelf, seat: &mut Place, at: Address) -> u64
     requires own { seat.old.table_id ≡ shelf.now.table_id }
-    requires inside { IsAt shelf.now.table_id.words shelf.now.key.value (home at) }
+    requires inside { IsAt shelf.now.table_id.words shelf.now.key.value (home_of at) }
     requires reads { IsReader seat.old.me.0 }
-    ensures { HasBegun seat.old seat.new (home at) result }
+    ensures { HasBegun seat.old seat.new (home_of at) result }
 {
     shelf.load::<StartLook>(seat, sequence_word(at))
 }
@@ -42,12 +42,12 @@ fn load(shelf: &Shelf, seat: &mut Place, word: usize) -> u64
 // Loads the group's data words.
 fn gather(shelf: &Shelf, seat: &mut Place, at: Address) -> [u64; DATA_WORDS]
     requires own { seat.old.table_id ≡ shelf.now.table_id }
-    requires inside { IsAt shelf.now.table_id.words shelf.now.key.value (home at) }
+    requires inside { IsAt shelf.now.table_id.words shelf.now.key.value (home_of at) }
     requires looking { IsLooking seat.old }
     ensures looking { IsLooking seat.new }
     ensures goes_on { GoesOn seat.old seat.new }
     ensures width { length result ≡ 2 }
-    ensures loads { (j : ℕ) → j < 2 → HasLoad (loads_of seat.new) (plays.load (layout.data_word (home at) j) (slice_index result j)) }
+    ensures loads { (j : ℕ) → j < 2 → HasLoad (loads_of seat.new) (plays.load (layout.data_word (home_of at) j) (slice_index result j)) }
 {
     let mut words = [0; DATA_WORDS];
     'loads: for number in 0..DATA_WORDS {
@@ -66,13 +66,13 @@ fn probe(
     found: Option<u8>,
 ) -> Option<u8>
     requires own { seat.old.table_id ≡ shelf.now.table_id }
-    requires inside { IsAt shelf.now.table_id.words shelf.now.key.value (home at) }
+    requires inside { IsAt shelf.now.table_id.words shelf.now.key.value (home_of at) }
     requires place { place < 64 }
     requires looking { IsLooking seat.old }
-    requires found { IsFound (loads_of seat.old) (home at) place key found }
+    requires found { IsFound (loads_of seat.old) (home_of at) place key found }
     ensures looking { IsLooking seat.new }
     ensures goes_on { GoesOn seat.old seat.new }
-    ensures found { IsFound (loads_of seat.new) (home at) (place + 1) key result }
+    ensures found { IsFound (loads_of seat.new) (home_of at) (place + 1) key result }
 {
     let second = load(shelf, seat, high_word(at.block, place));
     if tag(second) != u64::from(at.group) + 1 {
@@ -88,11 +88,11 @@ fn probe(
 // Goes over all places of the block, where the first data word is that of a record with rows.
 fn search(shelf: &Shelf, seat: &mut Place, at: Address, datum: u64, key: FlowKey) -> Option<u8>
     requires own { seat.old.table_id ≡ shelf.now.table_id }
-    requires inside { IsAt shelf.now.table_id.words shelf.now.key.value (home at) }
+    requires inside { IsAt shelf.now.table_id.words shelf.now.key.value (home_of at) }
     requires looking { IsLooking seat.old }
     ensures looking { IsLooking seat.new }
     ensures goes_on { GoesOn seat.old seat.new }
-    ensures found { 2 ^ 48 ≤ datum → IsFound (loads_of seat.new) (home at) 64 key result }
+    ensures found { 2 ^ 48 ≤ datum → IsFound (loads_of seat.new) (home_of at) 64 key result }
 {
     if !has_rows(datum) {
         return None;
@@ -107,12 +107,12 @@ fn search(shelf: &Shelf, seat: &mut Place, at: Address, datum: u64, key: FlowKey
 // Loads the group's sequence word once more.
 fn end(shelf: &Shelf, seat: &mut Place, at: Address) -> u64
     requires own { seat.old.table_id ≡ shelf.now.table_id }
-    requires inside { IsAt shelf.now.table_id.words shelf.now.key.value (home at) }
+    requires inside { IsAt shelf.now.table_id.words shelf.now.key.value (home_of at) }
     requires looking { IsLooking seat.old }
     requires group { (the_look seat.old).at ≡ at }
     ensures view { Reads seat.old seat.new (looked result (reader_view seat.old.me.0)) }
     ensures whole { IsEven (the_look seat.old).first → result ≡ (the_look seat.old).first
-        → let r = reader_view seat.old.me.0 in HasLoaded (bits_of r.opening) (loads_of seat.old) (home at) (latest r.opening r.seen (home at)) }
+        → let r = reader_view seat.old.me.0 in HasLoaded (bits_of r.opening) (loads_of seat.old) (home_of at) (latest r.opening r.seen (home_of at)) }
 {
     shelf.load::<EndLook>(seat, sequence_word(at))
 }
@@ -132,12 +132,12 @@ impl CellTable {
         key: FlowKey,
     ) -> Result<Look, Changing>
         requires reader { IsReaderOf self.now reader.old }
-        requires inside { IsIn (opened self.now) (the_group block group) }
+        requires inside { IsIn (opened_with self.now) (the_group block group) }
 
         ensures reader { IsReaderOf self.now reader.new }
         ensures later { Extends (seen reader.old) (seen reader.new) }
         ensures looks { looks reader.new ≡ looks reader.old + 1 }
-        ensures answer { IfOk result (λ l. Answers (opened self.now) reader.new (the_group block group) key l.version l.node) }
+        ensures answer { IfOk result (λ l. FindsNode (opened_with self.now) reader.new (the_group block group) key l.version l.node) }
         ensures changing { IfErr result (λ c. Changes reader.new (the_group block group) c.first c.second) }
     {
         let at = Address { block, group };

@@ -5,7 +5,7 @@ ghost use Rattle.group_search.specs.declared.record.GroupRecord.{GroupRecord};
 ghost use Rattle.group_search.specs.Canon.{rows_in};
 ghost use Rattle.group_search.specs.Image.{Image};
 ghost use Rattle.group_search.specs.Words.{HasBits};
-ghost use Rattle.group_cell.specs.Seats.{IsWriterOf, opened, published};
+ghost use Rattle.group_cell.specs.Seats.{IsWriterOf, opened_with, published};
 
 use crate::table::laying::{LaidTable, lay};
 use crate::table::{CellTable, WriterSeat};
@@ -43,8 +43,8 @@ impl CellTable {
         requires rows { All (λ (image : Image). sum_by rows_in image.records ≤ 64) images.now }
         requires bits { All (λ (image : Image). All (HasBits (value_bits shape.nodes)) image.records) images.now }
 
-        ensures images { IfOk result (λ r. (opened r.0).images ≡ images.now) }
-        ensures size { IfOk result (λ r. (opened r.0).size ≡ shape) }
+        ensures images { IfOk result (λ r. (opened_with r.0).images ≡ images.now) }
+        ensures size { IfOk result (λ r. (opened_with r.0).size ≡ shape) }
         ensures writer { IfOk result (λ r. IsWriterOf r.0 r.1) }
         ensures published { IfOk result (λ r. published r.1 ≡ []) }
     {

@@ -1,11 +1,11 @@
 //! The writer's look at its own table.
 ghost use Rattle.std.specs.Prelude.{◌≡◌, ℕ, ◌+◌, ◌<◌, Option, length, slice_index};
 ghost use Rattle.group_search.specs.Published.{count};
-ghost use Rattle.group_cell.specs.Layout.{home, high, datum, tag};
+ghost use Rattle.group_cell.specs.Layout.{home_of, high, datum, tag};
 ghost use Rattle.group_cell.specs.Rule.{IsIn, Stands};
 ghost use Rattle.group_cell.specs.Plays.{writer_view, IsWriter};
 ghost use Rattle.group_cell.specs.Seating.{AreOwners, IsAt, IsSamePlace, StandsFound, words_of_seat};
-ghost use Rattle.group_cell.specs.Seats.{IsWriterOf, node_at, opened, published, the_group};
+ghost use Rattle.group_cell.specs.Seats.{IsWriterOf, node_at_version, opened_with, published, the_group};
 
 use crate::layout::{DATA_WORDS, PLACES, data_word, high_word, low_word, sequence_word};
 use crate::plays::{Ask, Place, Shelf};
@@ -30,10 +30,10 @@ fn ask(shelf: &Shelf, seat: &mut Place, word: usize) -> u64
 // Loads the group's data words.
 fn ask_data(shelf: &Shelf, seat: &mut Place, at: Address) -> [u64; DATA_WORDS]
     requires own { seat.old.table_id ≡ shelf.now.table_id }
-    requires inside { IsAt shelf.now.table_id.words shelf.now.key.value (home at) }
+    requires inside { IsAt shelf.now.table_id.words shelf.now.key.value (home_of at) }
     requires writes { IsWriter seat.old.me.0 }
     ensures width { length result ≡ 2 }
-    ensures found { (j : ℕ) → j < 2 → slice_index result j ≡ datum (words_of_seat seat.old) (home at) j }
+    ensures found { (j : ℕ) → j < 2 → slice_index result j ≡ datum (words_of_seat seat.old) (home_of at) j }
     ensures same { IsSamePlace seat.old seat.new }
     ensures kept { seat.new.me ≡ seat.old.me }
 {
@@ -55,12 +55,12 @@ fn probe(
     found: Option<u8>,
 ) -> Option<u8>
     requires own { seat.old.table_id ≡ shelf.now.table_id }
-    requires inside { IsAt shelf.now.table_id.words shelf.now.key.value (home at) }
+    requires inside { IsAt shelf.now.table_id.words shelf.now.key.value (home_of at) }
     requires place { place < 64 }
     requires writes { IsWriter seat.old.me.0 }
     requires owner { owner ≡ tag (high (words_of_seat seat.old) at.block place) }
-    requires found { StandsFound (words_of_seat seat.old) (home at) place key found }
-    ensures found { StandsFound (words_of_seat seat.old) (home at) (place + 1) key result }
+    requires found { StandsFound (words_of_seat seat.old) (home_of at) place key found }
+    ensures found { StandsFound (words_of_seat seat.old) (home_of at) (place + 1) key result }
     ensures same { IsSamePlace seat.old seat.new }
     ensures kept { seat.new.me ≡ seat.old.me }
 {
@@ -84,10 +84,10 @@ fn search(
     key: FlowKey,
 ) -> Option<u8>
     requires own { seat.old.table_id ≡ shelf.now.table_id }
-    requires inside { IsAt shelf.now.table_id.words shelf.now.key.value (home at) }
+    requires inside { IsAt shelf.now.table_id.words shelf.now.key.value (home_of at) }
     requires writes { IsWriter seat.old.me.0 }
     requires owners { AreOwners owners.now (words_of_seat seat.old) at.block }
-    ensures found { StandsFound (words_of_seat seat.old) (home at) 64 key result }
+    ensures found { StandsFound (words_of_seat seat.old) (home_of at) 64 key result }
     ensures same { IsSamePlace seat.old seat.new }
     ensures kept { seat.new.me ≡ seat.old.me }
 {
@@ -106,12 +106,12 @@ impl CellTable {
     /// table's. Nothing changes.
     pub fn look_own(&self, writer: &mut WriterSeat, block: u16, group: u8, key: FlowKey) -> Look
         requires writer { IsWriterOf self.now writer.old }
-        requires inside { IsIn (opened self.now) (the_group block group) }
+        requires inside { IsIn (opened_with self.now) (the_group block group) }
 
         ensures writer { IsWriterOf self.now writer.new }
         ensures kept { published writer.new ≡ published writer.old }
         ensures version { result.version ≡ count (published writer.old) (the_group block group) }
-        ensures node { result.node ≡ node_at (opened self.now) (published writer.old) (the_group block group) result.version key }
+        ensures node { result.node ≡ node_at_version (opened_with self.now) (published writer.old) (the_group block group) result.version key }
     {
         let at = Address { block, group };
         let shelf = &self.table.shared;

@@ -1,7 +1,7 @@
 //! The writer's steps on row places.
 ghost use Rattle.std.specs.Prelude.{◌≡◌, ◌≢◌, ℕ, ◌+◌, ◌<◌, ◌≤◌, ◌∷◌, [], ◌++◌, List, length, slice_index, slice_set};
 ghost use Rattle.group_search.specs.declared.rows.Row.{Row};
-ghost use Rattle.group_cell.specs.Layout.{home};
+ghost use Rattle.group_cell.specs.Layout.{home_of};
 ghost use Rattle.group_cell.specs.Rule.{RowsStand};
 ghost use Rattle.group_cell.specs.Seating.{AreOwners, IsAt, IsInWriting, Rewrites, places_of, words_of_seat};
 
@@ -26,9 +26,9 @@ pub fn free_place(owners: &[u8; PLACES]) -> usize
 // Frees a place of the group.
 fn release(shelf: &Shelf, seat: &mut Place, owners: &mut [u8; PLACES], at: Address, place: usize)
     requires own { seat.old.table_id ≡ shelf.now.table_id }
-    requires inside { IsAt shelf.now.table_id.words shelf.now.key.value (home at) }
+    requires inside { IsAt shelf.now.table_id.words shelf.now.key.value (home_of at) }
     requires place { place < 64 }
-    requires writing { IsInWriting seat.old (home at) }
+    requires writing { IsInWriting seat.old (home_of at) }
     requires owners { AreOwners owners.old (words_of_seat seat.old) at.block }
     requires mine { slice_index owners.old place ≡ at.group + 1 }
     ensures owners { AreOwners owners.new (words_of_seat seat.new) at.block }
@@ -42,8 +42,8 @@ fn release(shelf: &Shelf, seat: &mut Place, owners: &mut [u8; PLACES], at: Addre
 /// Puts a row into a free place.
 pub fn put(shelf: &Shelf, seat: &mut Place, owners: &mut [u8; PLACES], at: Address, row: Row)
     requires own { seat.old.table_id ≡ shelf.now.table_id }
-    requires inside { IsAt shelf.now.table_id.words shelf.now.key.value (home at) }
-    requires writing { IsInWriting seat.old (home at) }
+    requires inside { IsAt shelf.now.table_id.words shelf.now.key.value (home_of at) }
+    requires writing { IsInWriting seat.old (home_of at) }
     requires owners { AreOwners owners.old (words_of_seat seat.old) at.block }
     requires room { 0 < places_of 0 owners.old }
     ensures owners { AreOwners owners.new (words_of_seat seat.new) at.block }
@@ -51,7 +51,7 @@ pub fn put(shelf: &Shelf, seat: &mut Place, owners: &mut [u8; PLACES], at: Addre
     ensures mine { places_of (at.group + 1) owners.new ≡ places_of (at.group + 1) owners.old + 1 }
     ensures others { (o : ℕ) → o ≢ 0 → o ≢ at.group + 1 → places_of o owners.new ≡ places_of o owners.old }
     ensures rewrites { Rewrites at.block seat.old seat.new }
-    ensures rows { (rows : List Row) → RowsStand (words_of_seat seat.old) (home at) rows → RowsStand (words_of_seat seat.new) (home at) (rows ++ row ∷ []) }
+    ensures rows { (rows : List Row) → RowsStand (words_of_seat seat.old) (home_of at) rows → RowsStand (words_of_seat seat.new) (home_of at) (rows ++ row ∷ []) }
 {
     let place = free_place(owners);
     let [first, second] = row_words(&row, at.group);
@@ -65,15 +65,15 @@ pub fn put(shelf: &Shelf, seat: &mut Place, owners: &mut [u8; PLACES], at: Addre
 /// Frees all places of the group.
 pub fn vacate(shelf: &Shelf, seat: &mut Place, owners: &mut [u8; PLACES], at: Address)
     requires own { seat.old.table_id ≡ shelf.now.table_id }
-    requires inside { IsAt shelf.now.table_id.words shelf.now.key.value (home at) }
-    requires writing { IsInWriting seat.old (home at) }
+    requires inside { IsAt shelf.now.table_id.words shelf.now.key.value (home_of at) }
+    requires writing { IsInWriting seat.old (home_of at) }
     requires owners { AreOwners owners.old (words_of_seat seat.old) at.block }
     ensures owners { AreOwners owners.new (words_of_seat seat.new) at.block }
     ensures free { places_of 0 owners.new ≡ places_of 0 owners.old + places_of (at.group + 1) owners.old }
     ensures mine { places_of (at.group + 1) owners.new ≡ 0 }
     ensures others { (o : ℕ) → o ≢ 0 → o ≢ at.group + 1 → places_of o owners.new ≡ places_of o owners.old }
     ensures rewrites { Rewrites at.block seat.old seat.new }
-    ensures none { RowsStand (words_of_seat seat.new) (home at) [] }
+    ensures none { RowsStand (words_of_seat seat.new) (home_of at) [] }
 {
     'places: for place in 0..PLACES {
         if owners[place] == at.group + 1 {
@@ -91,16 +91,16 @@ pub fn lay_rows(
     rows: &[Row],
 )
     requires own { seat.old.table_id ≡ shelf.now.table_id }
-    requires inside { IsAt shelf.now.table_id.words shelf.now.key.value (home at) }
-    requires writing { IsInWriting seat.old (home at) }
+    requires inside { IsAt shelf.now.table_id.words shelf.now.key.value (home_of at) }
+    requires writing { IsInWriting seat.old (home_of at) }
     requires owners { AreOwners owners.old (words_of_seat seat.old) at.block }
-    requires none { RowsStand (words_of_seat seat.old) (home at) [] }
+    requires none { RowsStand (words_of_seat seat.old) (home_of at) [] }
     requires room { length rows.now ≤ places_of 0 owners.old }
     ensures owners { AreOwners owners.new (words_of_seat seat.new) at.block }
     ensures mine { places_of (at.group + 1) owners.new ≡ places_of (at.group + 1) owners.old + length rows.now }
     ensures others { (o : ℕ) → o ≢ 0 → o ≢ at.group + 1 → places_of o owners.new ≡ places_of o owners.old }
     ensures rewrites { Rewrites at.block seat.old seat.new }
-    ensures rows { RowsStand (words_of_seat seat.new) (home at) rows.now }
+    ensures rows { RowsStand (words_of_seat seat.new) (home_of at) rows.now }
 {
     'rows: for row in rows {
         put(shelf, seat, owners, at, *row);

@@ -3,11 +3,11 @@ ghost use Rattle.std.specs.Prelude.{◌≡◌, ℕ, ◌+◌, ◌*◌, ◌^◌, �
 ghost use Rattle.flow_types.specs.Size.{value_bits};
 ghost use Rattle.group_search.specs.Canon.{rows_in};
 ghost use Rattle.group_search.specs.Words.{HasBits, PacksTo, packed_of, words_of};
-ghost use Rattle.group_cell.specs.Layout.{home, sequence, datum};
-ghost use Rattle.group_cell.specs.Rule.{Holds, IsIn, IsSound, bits_of, rows_of};
+ghost use Rattle.group_cell.specs.Layout.{home_of, sequence, datum};
+ghost use Rattle.group_cell.specs.Rule.{Holds, IsIn, IsSoundRecord, bits_of, rows_placed};
 ghost use Rattle.group_cell.specs.Plays.{begun, ended, publication, writer_view};
 ghost use Rattle.group_cell.specs.Seating.{IsAt, IsInWriting, IsWriterSeat, Writes, WritesData, words_of_seat};
-ghost use Rattle.group_cell.specs.Seats.{IsWriterOf, opened, published, rows_beside, the_group};
+ghost use Rattle.group_cell.specs.Seats.{IsWriterOf, opened_with, published, rows_beside, the_group};
 
 use crate::layout::{DATA_WORDS, data_word, sequence_word};
 use crate::plays::{Ask, Begin, End, Naming, Place, Shelf, Store};
@@ -20,12 +20,12 @@ use std::marker::Brand;
 // Makes the group's sequence word odd, and says what it was.
 fn begin(shelf: &Shelf, seat: &mut Place, at: Address) -> u64
     requires own { seat.old.table_id ≡ shelf.now.table_id }
-    requires inside { IsAt shelf.now.table_id.words shelf.now.key.value (home at) }
+    requires inside { IsAt shelf.now.table_id.words shelf.now.key.value (home_of at) }
     requires rests { IsWriterSeat seat.old }
     requires opening { (writer_view seat.old.me.0).opening ≡ shelf.now.key.value }
-    ensures found { (result ≡ sequence (words_of_seat seat.old) (home at)) × (result < 2 ^ 33) }
-    ensures wide { sequence (words_of_seat seat.new) (home at) ≡ result + 1 }
-    ensures begun { Writes seat.old seat.new (begun (home at) (result + 1) (writer_view seat.old.me.0)) }
+    ensures found { (result ≡ sequence (words_of_seat seat.old) (home_of at)) × (result < 2 ^ 33) }
+    ensures wide { sequence (words_of_seat seat.new) (home_of at) ≡ result + 1 }
+    ensures begun { Writes seat.old seat.new (begun (home_of at) (result + 1) (writer_view seat.old.me.0)) }
 {
     let version = shelf.load::<Ask>(seat, sequence_word(at));
     shelf.store::<Begin>(seat, sequence_word(at), version + 1);
@@ -35,11 +35,11 @@ fn begin(shelf: &Shelf, seat: &mut Place, at: Address) -> u64
 // Stores the data words.
 fn write(shelf: &Shelf, seat: &mut Place, at: Address, words: [u64; DATA_WORDS])
     requires own { seat.old.table_id ≡ shelf.now.table_id }
-    requires inside { IsAt shelf.now.table_id.words shelf.now.key.value (home at) }
-    requires writing { IsInWriting seat.old (home at) }
+    requires inside { IsAt shelf.now.table_id.words shelf.now.key.value (home_of at) }
+    requires writing { IsInWriting seat.old (home_of at) }
     requires wide { 320 * at.block + 320 ≤ length (words_of_seat seat.old) }
-    ensures data_words { (j : ℕ) → j < 2 → datum (words_of_seat seat.new) (home at) j ≡ slice_index words j }
-    ensures writes { WritesData (home at) seat.old seat.new }
+    ensures data_words { (j : ℕ) → j < 2 → datum (words_of_seat seat.new) (home_of at) j ≡ slice_index words j }
+    ensures writes { WritesData (home_of at) seat.old seat.new }
 {
     'stores: for number in 0..DATA_WORDS {
         shelf.store::<Store>(seat, data_word(at, number), words[number]);
@@ -49,13 +49,13 @@ fn write(shelf: &Shelf, seat: &mut Place, at: Address, words: [u64; DATA_WORDS])
 // Makes the group's sequence word even: the record is published.
 fn finish<C: Naming>(shelf: &Shelf, seat: &mut Place, at: Address, content: &GroupRecord, even: u64)
     requires own { seat.old.table_id ≡ shelf.now.table_id }
-    requires inside { IsAt shelf.now.table_id.words shelf.now.key.value (home at) }
-    requires writing { IsInWriting seat.old (home at) }
-    requires even { even ≡ sequence (words_of_seat seat.old) (home at) + 1 }
+    requires inside { IsAt shelf.now.table_id.words shelf.now.key.value (home_of at) }
+    requires writing { IsInWriting seat.old (home_of at) }
+    requires even { even ≡ sequence (words_of_seat seat.old) (home_of at) + 1 }
     requires named { content.now ≡ C.content }
     requires room { length (writer_view seat.old.me.0).published < 4294967295 }
-    requires holds { Holds (bits_of (writer_view seat.old.me.0).opening) (words_of_seat seat.old) (home at) content.now }
-    ensures { Writes seat.old seat.new (ended (home at) content.now even (writer_view seat.old.me.0)) }
+    requires holds { Holds (bits_of (writer_view seat.old.me.0).opening) (words_of_seat seat.old) (home_of at) content.now }
+    ensures { Writes seat.old seat.new (ended (home_of at) content.now even (writer_view seat.old.me.0)) }
 {
     let _ = content;
     shelf.store::<End<C>>(seat, sequence_word(at), even);
@@ -63,9 +63,9 @@ fn finish<C: Naming>(shelf: &Shelf, seat: &mut Place, at: Address, content: &Gro
 
 /// The rows of a record that stand in places.
 pub fn rows_kept(content: &GroupRecord) -> &[Row]
-    ensures value { result.now ≡ rows_of content.now }
+    ensures value { result.now ≡ rows_placed content.now }
     ensures count { length result.now ≡ rows_in content.now }
-    ensures sound { IsSound content.now }
+    ensures sound { IsSoundRecord content.now }
 {
     match content {
         GroupRecord::Served(_) => &[],
@@ -80,9 +80,9 @@ impl CellTable {
     /// `room` rows; a served record has the cluster's value bits; and fewer than 4,294,967,295 records were published.
     pub fn publish(&self, writer: &mut WriterSeat, block: u16, group: u8, content: &GroupRecord)
         requires writer { IsWriterOf self.now writer.old }
-        requires inside { IsIn (opened self.now) (the_group block group) }
-        requires bits { HasBits (value_bits (opened self.now).size.nodes) content.now }
-        requires room { rows_in content.now + rows_beside (opened self.now) (published writer.old) (the_group block group) ≤ 64 }
+        requires inside { IsIn (opened_with self.now) (the_group block group) }
+        requires bits { HasBits (value_bits (opened_with self.now).size.nodes) content.now }
+        requires room { rows_in content.now + rows_beside (opened_with self.now) (published writer.old) (the_group block group) ≤ 64 }
         requires few { length (published writer.old) < 4294967295 }
 
         ensures writer { IsWriterOf self.now writer.new }

@@ -6,7 +6,7 @@ use Rattle.group_cell.specs.Layout.{address}
 use Rattle.group_cell.specs.Rule.{IsEven}
 use Rattle.group_cell.specs.Plays.{reader_view}
 use Rattle.group_cell.specs.Seating.{loads_of}
-use Rattle.group_cell.specs.Seats.{the_group, opened}
+use Rattle.group_cell.specs.Seats.{the_group, opened_with}
 use Rattle.group_cell.proofs.Answering.{first_is, has_looked, is_looking, last_begun, look_begun, node_is, opening_then, seen_now, seen_then}
 use Rattle.group_cell.proofs.Looking.{goes_on-trans}
 use Rattle.group_cell.proofs.table.CellTable.look.Goals as goal
@@ -41,7 +41,7 @@ returns-clause-answer c = let at = the_group c.args.block c.args.group in let fi
     let counted : first / 2 ≡ count (reader_view t.me.0).seen at = sym (ap (λ (ps : List Publication). count ps at) (now ∙ seen_is) ∙ h.counted) in
     let whole = c.end-second.ensures.whole (subst IsEven (sym first_of) even) (again ∙ sym first_of) in record {
       version_is = counted;
-      node_is = node_is _ (opened c.args.self.now) _ _ _ _ at (first / 2) c.gather-words.result c.args.key c.search-found.result _ (opening_is ∙ c.requires.reader.one_opening) c.args.self.now.shaped (sym now) counted whole c.gather-words.ensures.width
+      node_is = node_is _ (opened_with c.args.self.now) _ _ _ _ at (first / 2) c.gather-words.result c.args.key c.search-found.result _ (opening_is ∙ c.requires.reader.one_opening) c.args.self.now.shaped (sym now) counted whole c.gather-words.ensures.width
           (λ j two. c.search-found.ensures.goes_on.loads _ (c.gather-words.ensures.loads j two)) c.search-found.ensures.found c.decoded.ensures;
       this_look = record { loads = loads_of s3; last = has_looked s0 s1 s3 t at first c.end-second.result h g l e ∙ (λ i. Some record { at = address at; first = double i; second = Some ((again ∙ double) i); loads = loads_of s3 }) };
     }

@@ -6,18 +6,18 @@ use Rattle.group_cell.specs.declared.view.Address.{Address}
 use Rattle.group_cell.specs.declared.view.View.{View}
 use Rattle.group_cell.specs.declared.view.WriterView.{WriterView}
 use Rattle.group_cell.specs.Opening.{Opened}
-use Rattle.group_cell.specs.Layout.{datum, home, sequence}
+use Rattle.group_cell.specs.Layout.{datum, home_of, sequence}
 use Rattle.group_cell.specs.Rule.{IsIn, Rests, Stands}
 use Rattle.group_cell.specs.Plays.{writer_view}
 use Rattle.group_cell.specs.Seating.{StandsFound}
-use Rattle.group_cell.specs.Seats.{opened, the_group}
+use Rattle.group_cell.specs.Seats.{opened_with, the_group}
 use Rattle.group_cell.proofs.Answering.{own_node}
 use Rattle.group_cell.proofs.Reading.{halves}
 use Rattle.group_cell.proofs.table.CellTable.look_own.Goals as goal
 
 -- the group rests, since nothing is in writing
 rests : (w : WriterView) (o : Opened) (at : Home) → Stands w → w.writing ≡ None → w.opening ≡ o → IsIn o at → Rests w at
-rests w o at s idle e inside = s.rest at (subst (λ (x : Opened). IsIn x at) (sym e) inside) (subst (λ (x : Option Address). IfSome x (λ a. home a ≡ at → ⊥)) (sym idle) tt)
+rests w o at s idle e inside = s.rest at (subst (λ (x : Opened). IsIn x at) (sym e) inside) (subst (λ (x : Option Address). IfSome x (λ a. home_of a ≡ at → ⊥)) (sym idle) tt)
 
 pub overflow_cast-result : goal.overflow_cast-result
 overflow_cast-result c = let w = writer_view c.args.writer.now.seat.me.0 in let at = the_group c.args.block c.args.group in
@@ -26,10 +26,10 @@ overflow_cast-result c = let w = writer_view c.args.writer.now.seat.me.0 in let 
 
 pub returns-clause-node : goal.returns-clause-node
 returns-clause-node c = let w = writer_view c.args.writer.now.seat.me.0 in let at = the_group c.args.block c.args.group in let ask = c.ask-sequence.ensures in let load = c.ask_data-words.ensures in
-    let r = rests w (opened c.args.self.now) at ask.stands c.args.writer.now.writes.rests c.requires.writer.one_opening c.requires.inside in
+    let r = rests w (opened_with c.args.self.now) at ask.stands c.args.writer.now.writes.rests c.requires.writer.one_opening c.requires.inside in
     let found : c.ask-sequence.result ≡ sequence w.words at = ask.found ∙ ap (λ (i : ℕ). get_or w.words i 0) c.sequence_word.ensures in
     let is = r.version in let counted : c.ask-sequence.result / 2 ≡ count w.published at = omega arith in
-    own_node w.opening (opened c.args.self.now) c.args.self.now.shape w.published w.words at (c.ask-sequence.result / 2) c.ask_data-words.result c.args.key c.search-found.result c.decoded.result
+    own_node w.opening (opened_with c.args.self.now) c.args.self.now.shape w.published w.words at (c.ask-sequence.result / 2) c.ask_data-words.result c.args.key c.search-found.result c.decoded.result
     c.requires.writer.one_opening c.args.self.now.shaped counted r.holds load.width
     (λ j two. load.found j two ∙ ap (λ (m : Me ℕ View). datum (writer_view m.0).words at j) ask.kept)
     (subst (λ (m : Me ℕ View). StandsFound (writer_view m.0).words at 64 c.args.key c.search-found.result) (load.kept ∙ ask.kept) c.search-found.ensures.found) c.decoded.ensures

@@ -1,7 +1,7 @@
 use Rattle.std.proofs.Common.{arith, ℕ, length-set, ap, ◌∙◌, get_or}
 use Rattle.atomic_table.specs.Table.{Me}
 use Rattle.group_cell.specs.declared.view.View.{View}
-use Rattle.group_cell.specs.Layout.{home}
+use Rattle.group_cell.specs.Layout.{home_of}
 use Rattle.group_cell.specs.Plays.{writer_view}
 use Rattle.group_cell.specs.Seating.{words_of_seat}
 use Rattle.group_cell.proofs.Answering.{one_more_own}
@@ -13,5 +13,5 @@ loads-preserved c = let i = c.loads.invariant in let a = c.ask.ensures in let wi
       width = length-set c.loads.words c.loads.number c.ask.result ∙ i.width;
       same = (a.same.0 ∙ i.same.0, a.same.1 ∙ i.same.1);
       kept = a.kept ∙ i.kept;
-      loads = one_more_own ws (home c.args.at) c.loads.number c.ask.result c.loads.words (omega arith) found i.loads;
+      loads = one_more_own ws (home_of c.args.at) c.loads.number c.ask.result c.loads.words (omega arith) found i.loads;
     }

@@ -1,6 +1,6 @@
 use Rattle.std.proofs.Common.{◌≡◌, ℕ, ◌<◌, List, slice_index, length}
 use Rattle.group_search.specs.Home.{Home}
-use Rattle.group_cell.specs.Layout.{home, datum}
+use Rattle.group_cell.specs.Layout.{home_of, datum}
 use Rattle.group_cell.specs.Seating.{Place, IsSamePlace, words_of_seat}
 use Rattle.group_cell.proofs.table.own_look.ask_data.Given as goal
 
@@ -12,4 +12,4 @@ pub record Asked (before now : Place) (at : Home) (number : ℕ) (found : List �
   pub loads : (j : ℕ) → j < number → slice_index found j ≡ datum (words_of_seat before) at j
 
 abbrev pub invariant-loads : goal.invariant-loads
-invariant-loads l = Asked l.initial.seat l.seat (home l.fn.at) l.number l.words
+invariant-loads l = Asked l.initial.seat l.seat (home_of l.fn.at) l.number l.words

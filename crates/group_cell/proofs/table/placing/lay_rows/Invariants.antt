@@ -1,7 +1,7 @@
 use Rattle.std.proofs.Common.{◌≡◌, ◌≢◌, ℕ, ◌+◌, List, take}
 use Rattle.group_search.specs.declared.rows.Row.{Row}
 use Rattle.group_search.specs.Home.{Home}
-use Rattle.group_cell.specs.Layout.{home}
+use Rattle.group_cell.specs.Layout.{home_of}
 use Rattle.group_cell.specs.Rule.{RowsStand}
 use Rattle.group_cell.specs.Seating.{Place, AreOwners, IsInWriting, Rewrites, places_of, words_of_seat}
 use Rattle.group_cell.proofs.table.placing.lay_rows.Given as goal
@@ -17,4 +17,4 @@ pub record Laid (before now : Place) (at : Home) (count : ℕ) (rows : List Row)
   pub others : (o : ℕ) → o ≢ 0 → o ≢ at.group + 1 → places_of o owners_now ≡ places_of o owners_before
 
 abbrev pub invariant-rows : goal.invariant-rows
-invariant-rows l = Laid l.initial.seat l.seat (home l.fn.at) l.row-index l.rows l.initial.owners l.owners
+invariant-rows l = Laid l.initial.seat l.seat (home_of l.fn.at) l.row-index l.rows l.initial.owners l.owners

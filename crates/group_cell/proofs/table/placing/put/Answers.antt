@@ -1,5 +1,5 @@
 use Rattle.std.proofs.Common.{arith, ◌≡◌, ℕ, List, ◌+◌, [], ◌∷◌, ◌++◌, set, get_or, inl, inr, sym, ap, ◌∙◌, subst}
-use Rattle.group_cell.specs.Layout.{home, high, low_word, high_word}
+use Rattle.group_cell.specs.Layout.{home_of, high, low_word, high_word}
 use Rattle.group_cell.specs.Rule.{RowsStand}
 use Rattle.group_cell.specs.Seating.{AreOwners, words_of_seat}
 use Rattle.group_cell.proofs.Groups.{IsOwn, tag_of_row}
@@ -10,18 +10,18 @@ use Rattle.group_cell.proofs.table.placing.put.Goals as goal
 
 pub store-requires : goal.store-requires
 store-requires c = let w = c.requires.writing in let k = c.free_place-place.ensures in let wide = c.requires.inside.wide in let inside = c.requires.inside.inside in let b = inside.block in let here = c.low_word-low.ensures in
-    (c.requires.own, omega arith, stores_low _ _ _ _ w.writes (home c.args.at) inside c.free_place-place.result _ _ w.writing k.0 (sym (c.requires.owners.tags c.free_place-place.result k.0) ∙ k.1) here)
+    (c.requires.own, omega arith, stores_low _ _ _ _ w.writes (home_of c.args.at) inside c.free_place-place.result _ _ w.writing k.0 (sym (c.requires.owners.tags c.free_place-place.result k.0) ∙ k.1) here)
 
 pub store-requires-2 : goal.store-requires-2
 store-requires-2 c = let w = c.requires.writing in let k = c.free_place-place.ensures in let wide = c.requires.inside.wide in let inside = c.requires.inside.inside in let b = inside.block in let here = c.high_word-high.ensures in
     let a = c.store.ensures in let place : ℕ = c.free_place-place.result in let block : ℕ = c.args.at.block in
-    let w' = still_in_writing c.args.seat.now c.store.new.seat c.low_word-low.result (get_or c.row_words.result 0 0) (a.0, a.1) a.2 (home c.args.at) w in
+    let w' = still_in_writing c.args.seat.now c.store.new.seat c.low_word-low.result (get_or c.row_words.result 0 0) (a.0, a.1) a.2 (home_of c.args.at) w in
     let spelled = spelled_items c.args.at.group c.args.row c.row_words.result c.row_words.ensures in
     let first : ℕ = get_or c.row_words.result 0 0 in
     let low = owners_low c.args.owners.now (words_of_seat c.args.seat.now) block place first c.requires.owners in
     let now : set (words_of_seat c.args.seat.now) (low_word block place) first ≡ words_of_seat c.store.new.seat = ap (λ (i : ℕ). set (words_of_seat c.args.seat.now) i first) (sym c.low_word-low.ensures) ∙ sym (words_are c.args.seat.now c.store.new.seat c.low_word-low.result (get_or c.row_words.result 0 0) (a.0, a.1) a.2) in
     let was : IsOwn c.args.at.group (high (words_of_seat c.store.new.seat) block place) = subst (λ (ws : List ℕ). IsOwn c.args.at.group (high ws block place)) now (inl (sym (low.tags place k.0) ∙ k.1)) in
-    (a.0 ∙ c.requires.own, omega arith, stores_high _ _ _ _ w'.writes (home c.args.at) inside place _ _ w'.writing k.0 was (inr (tag_of_row c.args.at.group c.args.row (get_or c.row_words.result 0 0) (get_or c.row_words.result 1 0) spelled)) here)
+    (a.0 ∙ c.requires.own, omega arith, stores_high _ _ _ _ w'.writes (home_of c.args.at) inside place _ _ w'.writing k.0 was (inr (tag_of_row c.args.at.group c.args.row (get_or c.row_words.result 0 0) (get_or c.row_words.result 1 0) spelled)) here)
 
 pub returns-clause-owners : goal.returns-clause-owners
 returns-clause-owners c = let k = c.free_place-place.ensures in let place : ℕ = c.free_place-place.result in let block : ℕ = c.args.at.block in let a = c.store.ensures in let e = c.store-2.ensures in
@@ -46,5 +46,5 @@ returns-clause-rewrites c = let k = c.free_place-place.ensures in let a = c.stor
 pub returns-clause-rows : goal.returns-clause-rows
 returns-clause-rows c rows s = let k = c.free_place-place.ensures in let place : ℕ = c.free_place-place.result in let block : ℕ = c.args.at.block in let a = c.store.ensures in let e = c.store-2.ensures in
     let spelled = spelled_items c.args.at.group c.args.row c.row_words.result c.row_words.ensures in
-    subst (λ (ws : List ℕ). RowsStand ws (home c.args.at) (rows ++ c.args.row ∷ [])) (sym (words_twice c.args.seat.now c.store.new.seat c.store-2.new.seat c.low_word-low.result c.high_word-high.result (get_or c.row_words.result 0 0) (get_or c.row_words.result 1 0) (a.0, a.1) a.2 (e.0, e.1) e.2 (low_word block place) (high_word block place) c.low_word-low.ensures c.high_word-high.ensures))
-    (placed (words_of_seat c.args.seat.now) (home c.args.at) place (get_or c.row_words.result 0 0) (get_or c.row_words.result 1 0) c.args.row k.0 c.requires.owners.wide (sym (c.requires.owners.tags place k.0) ∙ k.1) spelled rows s)
+    subst (λ (ws : List ℕ). RowsStand ws (home_of c.args.at) (rows ++ c.args.row ∷ [])) (sym (words_twice c.args.seat.now c.store.new.seat c.store-2.new.seat c.low_word-low.result c.high_word-high.result (get_or c.row_words.result 0 0) (get_or c.row_words.result 1 0) (a.0, a.1) a.2 (e.0, e.1) e.2 (low_word block place) (high_word block place) c.low_word-low.ensures c.high_word-high.ensures))
+    (placed (words_of_seat c.args.seat.now) (home_of c.args.at) place (get_or c.row_words.result 0 0) (get_or c.row_words.result 1 0) c.args.row k.0 c.requires.owners.wide (sym (c.requires.owners.tags place k.0) ∙ k.1) spelled rows s)

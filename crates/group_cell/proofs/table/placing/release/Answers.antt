@@ -1,5 +1,5 @@
 use Rattle.std.proofs.Common.{arith, ℕ, List, inl, inr, refl, sym, ◌∙◌, ap, subst, set}
-use Rattle.group_cell.specs.Layout.{home, high}
+use Rattle.group_cell.specs.Layout.{home_of, high}
 use Rattle.group_cell.specs.Seating.{AreOwners, words_of_seat}
 use Rattle.group_cell.proofs.Groups.{IsOwn}
 use Rattle.group_cell.proofs.Keeps.{stores_high}
@@ -10,7 +10,7 @@ use Rattle.group_cell.proofs.table.placing.release.Goals as goal
 pub store-requires : goal.store-requires
 store-requires c = let w = c.requires.writing in let k : ℕ = c.args.place in let wide = c.requires.inside.wide in let inside = c.requires.inside.inside in let b = inside.block in let here = c.high_word.ensures in let less = c.requires.place in
     let was : IsOwn c.args.at.group (high (words_of_seat c.args.seat.now) c.args.at.block k) = inr (sym (c.requires.owners.tags k less) ∙ c.requires.mine) in
-    (c.requires.own, omega arith, stores_high _ _ _ _ w.writes (home c.args.at) inside k _ 0 w.writing less was (inl refl) here)
+    (c.requires.own, omega arith, stores_high _ _ _ _ w.writes (home_of c.args.at) inside k _ 0 w.writing less was (inl refl) here)
 
 pub returns-clause-owners : goal.returns-clause-owners
 returns-clause-owners c = let e = c.store.ensures in let words = words_of_seat c.args.seat.now in let k : ℕ = c.args.place in

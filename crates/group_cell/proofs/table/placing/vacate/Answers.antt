@@ -2,7 +2,7 @@ use Rattle.std.proofs.Common.{arith, ◌≡◌, ◌≢◌, ℕ, ◌+◌, ◌<◌
 use mathlib.Core.Logic.{dite}
 use native.Mathlib.Decide.{ℕ_discrete}
 use Rattle.group_search.specs.Home.{Home}
-use Rattle.group_cell.specs.Layout.{home}
+use Rattle.group_cell.specs.Layout.{home_of}
 use Rattle.group_cell.specs.Seating.{Place, AreOwners, Rewrites, places_of, words_of_seat}
 use Rattle.group_cell.proofs.Placing.{none_left, no_rows, places_kept, places_lost, places_gained}
 use Rattle.group_cell.proofs.Rewriting.{rewrites-self, rewrites-trans, writing_on}
@@ -48,7 +48,7 @@ freed before now after at place owners_before owners_now v less mine owned rewri
     }
 
 pub places-preserved : goal.places-preserved
-places-preserved c = let at = home c.args.at in let before = c.args.seat.now in let now = c.places.seat in let place : ℕ = c.places.place in let o0 = c.args.owners.now in let o = c.places.owners in let less = c.places-test.true in
+places-preserved c = let at = home_of c.args.at in let before = c.args.seat.now in let now = c.places.seat in let place : ℕ = c.places.place in let o0 = c.args.owners.now in let o = c.places.owners in let less = c.places-test.true in
     elim c.if-owners-place.branch [
       | then-owners-place w ↦ subst (λ (x : Place × List ℕ). Vacated before x.0 at (place + 1) o0 x.1) (λ i. (sym w.seat-is i, sym (w.owners-is ∙ w.release.ensures.freed) i))
           (freed before now w.release.new.seat at place o0 o c.places.invariant less w.if-owners-place.true (subst (λ (os : List ℕ). AreOwners os (words_of_seat w.release.new.seat) c.args.at.block) w.release.ensures.freed w.release.ensures.owners) w.release.ensures.rewrites)
@@ -62,4 +62,4 @@ pub returns-clause-free : goal.returns-clause-free
 returns-clause-free c = let v = c.places.invariant in let counts = v.counts in let none : places_of (c.args.at.group + 1) c.places.owners ≡ 0 = none_left c.places.owners (words_of_seat c.places.seat) c.args.at.block (c.args.at.group + 1) v.owners (λ k less. v.gone k (omega arith)) in omega arith
 
 pub returns-clause-none : goal.returns-clause-none
-returns-clause-none c = let v = c.places.invariant in no_rows c.places.owners (words_of_seat c.places.seat) (home c.args.at) v.owners (λ k less. v.gone k (omega arith))
+returns-clause-none c = let v = c.places.invariant in no_rows c.places.owners (words_of_seat c.places.seat) (home_of c.args.at) v.owners (λ k less. v.gone k (omega arith))

@@ -1,6 +1,6 @@
 use Rattle.std.proofs.Common.{◌≡◌, ◌≢◌, ℕ, ◌+◌, ◌<◌, List, slice_index}
 use Rattle.group_search.specs.Home.{Home}
-use Rattle.group_cell.specs.Layout.{home}
+use Rattle.group_cell.specs.Layout.{home_of}
 use Rattle.group_cell.specs.Seating.{Place, AreOwners, IsInWriting, Rewrites, places_of, words_of_seat}
 use Rattle.group_cell.proofs.table.placing.vacate.Given as goal
 
@@ -14,4 +14,4 @@ pub record Vacated (before now : Place) (at : Home) (place : ℕ) (owners_before
   pub others : (o : ℕ) → o ≢ 0 → o ≢ at.group + 1 → places_of o owners_now ≡ places_of o owners_before
 
 abbrev pub invariant-places : goal.invariant-places
-invariant-places l = Vacated l.initial.seat l.seat (home l.fn.at) l.place l.initial.owners l.owners
+invariant-places l = Vacated l.initial.seat l.seat (home_of l.fn.at) l.place l.initial.owners l.owners

@@ -1,6 +1,6 @@
 use Rattle.std.proofs.Common.{arith, ◌≡◌, sym, ap, ◌∙◌, subst}
 use Rattle.group_cell.specs.declared.view.View.TheVariants.{Writer}
-use Rattle.group_cell.specs.Layout.{home, home_at}
+use Rattle.group_cell.specs.Layout.{home_of, home_of_word}
 use Rattle.group_cell.specs.Rule.{Holds, bits_of}
 use Rattle.group_cell.specs.Plays.{writer_view, ended}
 use Rattle.group_cell.proofs.Groups.{home_back}
@@ -12,13 +12,13 @@ store-requires g c = let wide = c.requires.inside.wide in let inside = c.require
     let w = writer_view c.args.seat.now.me.0 in let C = g.C.Naming.content in let room = c.requires.room in (
       c.requires.own,
       omega arith,
-      ends_writing _ _ _ _ c.requires.writing.writes (home c.args.at) inside C _ _ c.requires.writing.writing here c.requires.even (omega arith)
-          (λ _. subst (Holds (bits_of w.opening) w.words (home c.args.at)) c.requires.named c.requires.holds),
+      ends_writing _ _ _ _ c.requires.writing.writes (home_of c.args.at) inside C _ _ c.requires.writing.writing here c.requires.even (omega arith)
+          (λ _. subst (Holds (bits_of w.opening) w.words (home_of c.args.at)) c.requires.named c.requires.holds),
     )
 
 pub returns : goal.returns
 returns g c = let a = c.store.ensures in
-    let back : home_at c.sequence_word.result ≡ home c.args.at = ap home_at c.sequence_word.ensures ∙ home_back (home c.args.at) c.requires.inside.inside.group in record {
+    let back : home_of_word c.sequence_word.result ≡ home_of c.args.at = ap home_of_word c.sequence_word.ensures ∙ home_back (home_of c.args.at) c.requires.inside.inside.group in record {
       same = (a.0, a.1);
       me = a.2 ∙ (λ i. (Writer (ended (back i) (sym c.requires.named i) c.args.even (writer_view c.args.seat.now.me.0)), c.args.seat.now.me.1));
     }

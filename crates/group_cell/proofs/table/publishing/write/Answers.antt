@@ -2,7 +2,7 @@ use Rattle.std.proofs.Common.{arith, ◌≡◌, ℕ, ◌+◌, ◌<◌, List, get
 use mathlib.Core.Logic.{dite}
 use native.Mathlib.Decide.{ℕ_discrete}
 use Rattle.group_search.specs.Home.{Home}
-use Rattle.group_cell.specs.Layout.{home, data_word, datum}
+use Rattle.group_cell.specs.Layout.{home_of, data_word, datum}
 use Rattle.group_cell.specs.Seating.{words_of_seat}
 use Rattle.group_cell.proofs.Keeps.{stores_datum}
 use Rattle.group_cell.proofs.Rewriting.{words_are, still_in_writing, writes_datum, data-self, data-trans}
@@ -17,17 +17,17 @@ one_more ws after at number n i words here is room value before j less = dite (�
 
 pub stores-init : goal.stores-init
 stores-init c = record {
-  writes = data-self (home c.args.at) c.args.seat.now c.requires.writing.writes;
+  writes = data-self (home_of c.args.at) c.args.seat.now c.requires.writing.writes;
   writing = c.requires.writing;
   data_words = λ j less. absurd (omega arith);
 }
 
 pub store-requires : goal.store-requires
 store-requires c = let wide = c.requires.inside.wide in let inside = c.requires.inside.inside in let b = inside.block in let g = inside.group in let here = c.data_word.ensures in let i = c.stores.invariant in
-    (i.writes.same.0 ∙ c.requires.own, omega arith, stores_datum _ _ _ _ i.writing.writes (home c.args.at) inside c.stores.number _ _ i.writing.writing (omega arith) here)
+    (i.writes.same.0 ∙ c.requires.own, omega arith, stores_datum _ _ _ _ i.writing.writes (home_of c.args.at) inside c.stores.number _ _ i.writing.writing (omega arith) here)
 
 pub stores-preserved : goal.stores-preserved
-stores-preserved c = let i = c.stores.invariant in let a = c.store.ensures in let here = c.data_word.ensures in let at = home c.args.at in let wide = c.requires.wide in let same_wide = i.writes.wide in let g = c.requires.inside.inside.group in
+stores-preserved c = let i = c.stores.invariant in let a = c.store.ensures in let here = c.data_word.ensures in let at = home_of c.args.at in let wide = c.requires.wide in let same_wide = i.writes.wide in let g = c.requires.inside.inside.group in
     let s = c.stores.seat in let t = c.store.new.seat in let word : ℕ = c.data_word.result in let value : ℕ = get_or c.args.words c.stores.number 0 in let number : ℕ = c.stores.number in record {
       writes = data-trans at c.args.seat.now s t i.writes (writes_datum s t word value (a.0, a.1) a.2 at number (omega arith) here);
       writing = still_in_writing s t word value (a.0, a.1) a.2 at i.writing;

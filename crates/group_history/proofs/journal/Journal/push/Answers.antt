@@ -1,7 +1,7 @@
 use Rattle.std.proofs.Common.{◌≡◌, ◌∙◌, ◌+◌, ◌++◌, ◌∷◌, [], length, IsOk, Some, ap, sym, arith, length-append}
 use Rattle.std.specs.HashMap.{Updates}
 use Rattle.std.proofs.lemmas.Bool.{cond-true}
-use Rattle.group_history.specs.Journal.{Log, count}
+use Rattle.group_history.specs.Journal.{Log, change_count}
 use Rattle.group_history.specs.Kept.{same_group}
 use Rattle.group_history.proofs.Counts.{few_of, more_counts, of_ok}
 use Rattle.group_history.proofs.journal.Journal.push.Goals as goal
@@ -19,8 +19,8 @@ invariant_of-self c =
     let pushed : IsOk c.push.result = c.push.ensures.succeeds (omega (arith, c.self.invariant.room_for_changes)) in
     let items : c.push.new.self.items ≡ c.self.inside.changes.items ++ c.args.change ∷ [] = c.push.ensures.items ∙ cond-true _ _ _ pushed in
     let longer = length-append c.self.inside.changes.items (c.args.change ∷ []) in
-    let total : c.count-count.result + 1 ≡ count (record { block = c.args.change.block; group = c.args.change.group }) c.self.inside.changes.items + 1 =
-    ap (λ n. n + 1) (c.count-count.ensures ∙ ap (count (record { block = c.args.change.block; group = c.args.change.group })) (sym changes_are)) in
+    let total : c.count-count.result + 1 ≡ change_count (record { block = c.args.change.block; group = c.args.change.group }) c.self.inside.changes.items + 1 =
+    ap (λ n. n + 1) (c.count-count.ensures ∙ ap (change_count (record { block = c.args.change.block; group = c.args.change.group })) (sym changes_are)) in
     rw items
     (record {
       counts = more_counts c.self.inside.counts c.insert.new.self c.self.inside.changes.items c.args.change c.self.invariant.counts (c.count-count.result + 1) total

@@ -7,7 +7,7 @@ use Rattle.group_search.specs.Canon.{canonical}
 use Rattle.group_search.specs.Records.{entries}
 use Rattle.group_history.specs.declared.change.Change.{Change}
 use Rattle.group_history.specs.Change.{step}
-use Rattle.rib_owner.specs.Acceptance.{key_of}
+use Rattle.rib_owner.specs.Acceptance.{updated_key}
 use Rattle.rib_owner.specs.Part.{IsOwner}
 use Rattle.rib_owner.specs.Rib.{Part, Rib, map_in, no_part}
 use Rattle.rib_owner.specs.Turn.{plan_of}
@@ -34,7 +34,7 @@ returns-in_err-check_place-clause-answer c flows is =
     subst (λ (r : Rib). IsOwner r.size r.number r.parts) c.self.view_is c.self.invariant.owner in
     let left : length c.args.self.now.journal.changes ≢ 65535 =
     λ last. c.if-turns-eq-MOST_TURNS.false (c.len-turns.ensures ∙ ap (λ (r : Rib). length r.journal.changes) c.self.view_is ∙ last) in
-    let low : (place c.args.self.now.size.blocks (key_of c.args.update)).block < c.args.self.now.size.blocks = omega (arith, is_seen.block_is, c.spot-spot.ensures.below) in
+    let low : (place c.args.self.now.size.blocks (updated_key c.args.update)).block < c.args.self.now.size.blocks = omega (arith, is_seen.block_is, c.spot-spot.ensures.below) in
     rw (err_is c.from_residual.result c.in_err-check_place.field-0.0 c.from_residual.ensures.1)
     (seen_place c.args.self.now c.args.update c.spot-spot.result.block c.spot-spot.result.group c.spot-spot.result.index c.index-block.result.now
     (record { block = c.spot-spot.result.block; group = c.spot-spot.result.group; key = c.key-key.result; to = c.wanted.result }) is_seen c.requires.owns c.spot-spot.ensures.some_node sound
@@ -66,7 +66,7 @@ returns-in_err-content-clause-answer c flows is =
     subst (λ (r : Rib). IsOwner r.size r.number r.parts) c.self.view_is c.self.invariant.owner in
     let left : length c.args.self.now.journal.changes ≢ 65535 =
     λ last. c.if-turns-eq-MOST_TURNS.false (c.len-turns.ensures ∙ ap (λ (r : Rib). length r.journal.changes) c.self.view_is ∙ last) in
-    let low : (place c.args.self.now.size.blocks (key_of c.args.update)).block < c.args.self.now.size.blocks = omega (arith, is_seen.block_is, c.spot-spot.ensures.below) in
+    let low : (place c.args.self.now.size.blocks (updated_key c.args.update)).block < c.args.self.now.size.blocks = omega (arith, is_seen.block_is, c.spot-spot.ensures.below) in
     let size_is : c.self.inside.shape ≡ c.args.self.now.size = ap (λ (r : Rib). r.size) c.self.view_is in
     let bits : c.value_bits-bits.result ≡ value_bits c.args.self.now.size.nodes = c.value_bits-bits.ensures.value ∙ ap (λ (s : Size). value_bits s.nodes) size_is in
     rw (err_is c.from_residual-in_err-content.result c.in_err-content.field-0.0 c.from_residual-in_err-content.ensures.1)
@@ -148,7 +148,7 @@ returns-clause-answer c flows is =
     subst (λ (r : Rib). IsOwner r.size r.number r.parts) c.self.view_is c.self.invariant.owner in
     let left : length c.args.self.now.journal.changes ≢ 65535 =
     λ last. c.if-turns-eq-MOST_TURNS.false (c.len-turns.ensures ∙ ap (λ (r : Rib). length r.journal.changes) c.self.view_is ∙ last) in
-    let low : (place c.args.self.now.size.blocks (key_of c.args.update)).block < c.args.self.now.size.blocks = omega (arith, is_seen.block_is, c.spot-spot.ensures.below) in
+    let low : (place c.args.self.now.size.blocks (updated_key c.args.update)).block < c.args.self.now.size.blocks = omega (arith, is_seen.block_is, c.spot-spot.ensures.below) in
     let size_is : c.self.inside.shape ≡ c.args.self.now.size = ap (λ (r : Rib). r.size) c.self.view_is in
     let bits : c.value_bits-bits.result ≡ value_bits c.args.self.now.size.nodes = c.value_bits-bits.ensures.value ∙ ap (λ (s : Size). value_bits s.nodes) size_is in
     let content : canonical (value_bits c.args.self.now.size.nodes)
@@ -173,7 +173,7 @@ returns-clause-stands c flows is =
     c.index-block.result.now c.index-block.ensures c.wanted.result c.wanted.ensures in
     let sound : IsOwner c.args.self.now.size c.args.self.now.number c.args.self.now.parts =
     subst (λ (r : Rib). IsOwner r.size r.number r.parts) c.self.view_is c.self.invariant.owner in
-    let low : (place c.args.self.now.size.blocks (key_of c.args.update)).block < c.args.self.now.size.blocks = omega (arith, is_seen.block_is, c.spot-spot.ensures.below) in
+    let low : (place c.args.self.now.size.blocks (updated_key c.args.update)).block < c.args.self.now.size.blocks = omega (arith, is_seen.block_is, c.spot-spot.ensures.below) in
     let map_is : c.in_ok-map.map ≡ step (map_in c.index-block.result.now c.spot-spot.result.group) (record { block = c.spot-spot.result.block; group = c.spot-spot.result.group; key = c.key-key.result; to = c.wanted.result }) =
     c.in_ok-map.ensures in
     let there : c.spot-spot.result.index < length c.self.inside.blocks.items = omega (arith, c.spot-spot.ensures.inside, ap (λ (r : Rib). length r.parts) c.self.view_is) in
