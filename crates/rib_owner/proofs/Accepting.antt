@@ -176,3 +176,6 @@ module _ (rib : Rib) (update : Update) (block group index : ℕ) (found : Part) 
 pub err_is : {T : Type 0} (result : Result T UpdateRefused) (refused : UpdateRefused) → IsErrAnd result (λ e. e ≡ refused) → result ≡ Err refused
 err_is (Ok x) refused is = absurd is
 err_is (Err e) refused is = ap Err is
+
+pub same_err : {T : Type 0} (result : Result T UpdateRefused) (a b : UpdateRefused) → result ≡ Err a → result ≡ Err b → a ≡ b
+same_err result a b one other = cc

@@ -10,3 +10,4 @@ pub mod Filled
 pub mod OneCase
 pub mod Answering
 pub mod Accepting
+pub mod Removed

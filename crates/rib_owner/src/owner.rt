@@ -1,10 +1,13 @@
-ghost use Rattle.std.specs.Prelude.{◌≡◌, ◌<◌, ◌≤◌, ◌↔◌, ◌/◌, ◌++◌, ◌∷◌, [], List, IsTrue, IfOk, OnOk, OnErr, None, if◌then◌else◌, length, option_map};
+ghost use Rattle.std.specs.Prelude.{◌≡◌, ◌≢◌, ℕ, Err, ◌<◌, ◌≤◌, ◌↔◌, ◌/◌, ◌++◌, ◌∷◌, [], List, IsTrue, IfOk, OnOk, OnErr, None, if◌then◌else◌, length, option_map};
+ghost use Rattle.flow_types.specs.declared.key.FlowKey.{FlowKey};
 ghost use Rattle.flow_types.specs.declared.record.Flow.{Flow};
 ghost use Rattle.flow_types.specs.Map.{flow_at};
 ghost use Rattle.hash_family.specs.Hash as hash;
 ghost use Rattle.group_search.specs.Home.{home};
-ghost use Rattle.rib_owner.specs.Acceptance.{updated_key};
+ghost use Rattle.rib_owner.specs.declared.refused.UpdateRefused.TheVariants as refusals;
+ghost use Rattle.rib_owner.specs.declared.update.Update.TheVariants as updates;
 ghost use Rattle.group_search.specs.Owned.{IsOwned};
+ghost use Rattle.rib_owner.specs.Acceptance.{updated_key};
 ghost use Rattle.rib_owner.specs.Rib.{IsRibOf, found_in, group_in, is_owned, map_now, node_and_record, part_of};
 ghost use Rattle.rib_owner.specs.Turn.{AnswersUpdate};
 
@@ -113,6 +116,7 @@ impl Owner {
         ensures journal { IfOk result (λ turn. self.new.journal.changes ≡ self.old.journal.changes ++ turn.change ∷ []) }
         ensures size { self.new.size ≡ self.old.size }
         ensures number { self.new.number ≡ self.old.number }
+        ensures removes { (key : FlowKey) (block needed free : ℕ) → update ≡ updates.Del key → result ≢ Err (refusals.RowsFull block needed free) }
         ensures refused { OnErr result (self.new ≡ self.old) }
     {
         let turns = self.journal.len();

@@ -1,4 +1,4 @@
-use Rattle.std.proofs.Common.{ℕ, ◌≡◌, ◌≢◌, ◌∙◌, ◌+◌, ◌<◌, ◌++◌, ◌∷◌, [], List, Some, length, set, refl, sym, ap, subst, arith, length-append}
+use Rattle.std.proofs.Common.{ℕ, ◌≡◌, ◌≢◌, ◌∙◌, ◌+◌, ◌<◌, ◌++◌, ◌∷◌, [], List, Some, None, length, set, refl, sym, ap, subst, arith, length-append}
 use Rattle.std.proofs.lemmas.List.{get_or_default}
 use Rattle.flow_types.specs.Map.{flow_at}
 use Rattle.flow_types.specs.Size.{Size, value_bits}
@@ -7,13 +7,17 @@ use Rattle.group_search.specs.Canon.{canonical}
 use Rattle.group_search.specs.Records.{entries}
 use Rattle.group_history.specs.declared.change.Change.{Change}
 use Rattle.group_history.specs.Change.{step}
-use Rattle.rib_owner.specs.Acceptance.{updated_key}
+use Rattle.rib_owner.specs.declared.refused.UpdateRefused.{UpdateRefused}
+use Rattle.rib_owner.specs.declared.refused.UpdateRefused.TheVariants.{RowsFull}
+use Rattle.rib_owner.specs.Acceptance.{grounds_in, refusal_of_place, updated_key, wanted}
+use Rattle.rib_owner.specs.Judging.{IsFor, refusal_in_rows}
 use Rattle.rib_owner.specs.Part.{IsOwner}
 use Rattle.rib_owner.specs.Rib.{Part, Rib, map_in, no_part}
 use Rattle.rib_owner.specs.Turn.{plan_of}
-use Rattle.rib_owner.proofs.Accepting.{IsSeen, err_is, seen, seen_accepted, seen_owner, seen_place, seen_rows, seen_small, seen_stands, seen_turn}
+use Rattle.rib_owner.proofs.Accepting.{IsSeen, err_is, found_kept, same_err, seen, seen_accepted, seen_owner, seen_place, seen_rows, seen_small, seen_stands, seen_turn}
 use Rattle.rib_owner.proofs.Answering.{answer_spent}
 use Rattle.rib_owner.proofs.Counted.{with_map}
+use Rattle.rib_owner.proofs.Removed.{place_not_rows, removed_fits}
 use Rattle.rib_owner.proofs.owner.Owner.accept.Goals as goal
 
 pub returns-then-turns-eq-MOST_TURNS-clause-answer : goal.returns-then-turns-eq-MOST_TURNS-clause-answer
@@ -187,3 +191,51 @@ returns-clause-stands c flows is =
     low flows is _ c.in_ok-map.map c.rows.result c.replace.new.self (ap (λ (r : Rib). r.size) c.self.view_is) (ap (λ (r : Rib). r.number) c.self.view_is)
     (ap (λ (r : Rib). set r.parts c.spot-spot.result.index c.replace.new.self) c.self.view_is) new_is map_is
     (c.push.ensures.changes ∙ ap (λ (cs : List Change). cs ++ (record { block = c.spot-spot.result.block; group = c.spot-spot.result.group; key = c.key-key.result; to = c.wanted.result }) ∷ []) (c.in_ok-reserve.ensures.changes ∙ ap (λ (r : Rib). r.journal.changes) c.self.view_is))
+
+pub returns-in_err-check_place-clause-removes : goal.returns-in_err-check_place-clause-removes
+returns-in_err-check_place-clause-removes c key block needed free removes err =
+    let same : c.in_err-check_place.field-0.0 ≡ RowsFull block needed free =
+    same_err c.from_residual.result c.in_err-check_place.field-0.0 (RowsFull block needed free)
+    (err_is c.from_residual.result c.in_err-check_place.field-0.0 c.from_residual.ensures.1) err in
+    place_not_rows c.args.update key removes
+    (grounds_in 0 0 (record { block = c.spot-spot.result.block; group = c.spot-spot.result.group }) (map_in c.index-block.result.now) c.args.update) block needed free
+    (subst
+    (λ (e : UpdateRefused).
+    IsFor
+    (refusal_of_place c.args.update
+    (grounds_in 0 0 (record { block = c.spot-spot.result.block; group = c.spot-spot.result.group }) (map_in c.index-block.result.now) c.args.update))
+    e)
+    same (c.in_err-check_place.ensures 0 0))
+
+pub returns-in_err-content-clause-removes : goal.returns-in_err-content-clause-removes
+returns-in_err-content-clause-removes c key block needed free removes err =
+    let held : Rib = record { size = c.self.inside.shape; number = c.self.inside.number; parts = c.self.inside.blocks.items; journal = c.self.inside.journal } in
+    let is_seen : IsSeen c.args.self.now c.args.update c.spot-spot.result.block c.spot-spot.result.group c.spot-spot.result.index c.index-block.result.now
+    (record { block = c.spot-spot.result.block; group = c.spot-spot.result.group; key = c.key-key.result; to = c.wanted.result }) =
+    seen c.args.self.now held c.self.view_is c.args.update c.key-key.result c.key-key.ensures c.spot-spot.result.block c.spot-spot.result.group c.spot-spot.result.index
+    c.spot-spot.ensures.block c.spot-spot.ensures.index c.spot-spot.ensures.inside c.spot-spot.ensures.group c.spot-spot.ensures.in_range
+    c.index-block.result.now c.index-block.ensures c.wanted.result c.wanted.ensures in
+    let sound : IsOwner c.args.self.now.size c.args.self.now.number c.args.self.now.parts =
+    subst (λ (r : Rib). IsOwner r.size r.number r.parts) c.self.view_is c.self.invariant.owner in
+    let size_is : c.self.inside.shape ≡ c.args.self.now.size = ap (λ (r : Rib). r.size) c.self.view_is in
+    let bits : c.value_bits-bits.result ≡ value_bits c.args.self.now.size.nodes = c.value_bits-bits.ensures.value ∙ ap (λ (s : Size). value_bits s.nodes) size_is in
+    let same : c.in_err-content.field-0.0 ≡ RowsFull block needed free =
+    same_err c.from_residual-in_err-content.result c.in_err-content.field-0.0 (RowsFull block needed free)
+    (err_is c.from_residual-in_err-content.result c.in_err-content.field-0.0 c.from_residual-in_err-content.ensures.1) err in
+    let full : refusal_in_rows (value_bits c.args.self.now.size.nodes) c.index-block.result.now
+    (record { block = c.spot-spot.result.block; group = c.spot-spot.result.group; key = c.key-key.result; to = c.wanted.result }) ≡ Some (RowsFull block needed free) =
+    subst
+    (λ (e : UpdateRefused).
+    IsFor
+    (refusal_in_rows (value_bits c.args.self.now.size.nodes) c.index-block.result.now
+    (record { block = c.spot-spot.result.block; group = c.spot-spot.result.group; key = c.key-key.result; to = c.wanted.result }))
+    e)
+    same (rw bits at c.in_err-content.ensures.rows) in
+    let none : refusal_in_rows (value_bits c.args.self.now.size.nodes) c.index-block.result.now
+    (record { block = c.spot-spot.result.block; group = c.spot-spot.result.group; key = c.key-key.result; to = c.wanted.result }) ≡ None =
+    removed_fits (value_bits c.args.self.now.size.nodes) c.index-block.result.now
+    (record { block = c.spot-spot.result.block; group = c.spot-spot.result.group; key = c.key-key.result; to = c.wanted.result })
+    (found_kept c.args.self.now c.args.update c.spot-spot.result.block c.spot-spot.result.group c.spot-spot.result.index c.index-block.result.now
+    (record { block = c.spot-spot.result.block; group = c.spot-spot.result.group; key = c.key-key.result; to = c.wanted.result }) is_seen c.requires.owns c.spot-spot.ensures.some_node sound)
+    c.spot-spot.ensures.in_range (c.wanted.ensures ∙ ap wanted removes) in
+    cc
