@@ -6,7 +6,7 @@ use Rattle.flow_types.specs.declared.record.Flow.{Flow}
 use Rattle.flow_types.specs.Size.{Size}
 use Rattle.group_search.specs.declared.limits.TheConstants.{MOST_ENTRIES, MOST_ROWS}
 use Rattle.group_search.specs.Home.{flows_of}
-use Rattle.group_search.specs.Build.{IsFirstPast, IsPast, IsWithin, NamesTheFirst, PastLimit, TellsTheFirst, block_of, first_past_limit, needed, or_later, past_limit, past_limit_at}
+use Rattle.group_search.specs.Build.{IsPast, IsWithin, NamesTheFirst, PastLimit, TellsTheFirst, block_of, first_past_limit, needed, or_later, past_limit, past_limit_at}
 use Rattle.group_search.specs.Build.PastLimit.{TooManyFlows, TooManyRows}
 
 module _ (size : Size) (flows : List Flow) where
