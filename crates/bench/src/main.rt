@@ -4,6 +4,7 @@
 //! long each took. With the word `rows` it reads standard input and counts its rows, and does nothing else.
 #![tactic(auto)]
 
+mod building;
 mod choosing;
 mod keys;
 mod reading;

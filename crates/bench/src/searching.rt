@@ -1,7 +1,26 @@
 use crate::keys::{draw, key};
-use group_search::{Entry, least};
+use group_search::{Entry, Pair, least, least_plain};
 use hash_family::pair;
 use std::alloc::{AllocError, Global};
+
+/// How groups are searched.
+#[derive(Clone, Copy)]
+pub enum Search {
+    /// Many indexes at a time.
+    Lanes,
+    /// One index after the other.
+    Plain,
+}
+
+impl Search {
+    /// The least index for the lowest bit.
+    fn least(self, entries: &[Entry]) -> Option<Pair> {
+        match self {
+            Search::Lanes => least(entries, 0),
+            Search::Plain => least_plain(entries, 0),
+        }
+    }
+}
 
 /// What a search of groups came to.
 #[derive(Clone, Copy)]
@@ -12,13 +31,25 @@ pub struct Searched {
     pub sum: u64,
 }
 
-/// Searches the lowest bit of so many groups of so many keys each, with nodes drawn evenly.
-pub fn groups(alloc: Global, seed: u64, groups: u64, keys: u64) -> Result<Searched, AllocError> {
-    let mut entries = Vec::new(alloc);
-    let mut all = Searched { tried: 0, sum: 0 };
+/// So many groups of so many keys each, with nodes drawn evenly.
+pub fn groups(
+    alloc: Global,
+    seed: u64,
+    groups: u64,
+    keys: u64,
+) -> Result<Vec<Vec<Entry>>, AllocError> {
+    let mut made = Vec::new(alloc);
     'groups: for group in 0..groups {
-        fill(&mut entries, draw(seed, group), keys)?;
-        let (tried, sum) = match least(entries.as_slice(), 0) {
+        made.push(entries(alloc, draw(seed, group), keys)?)?;
+    }
+    Ok(made)
+}
+
+/// Searches the lowest bit of each group.
+pub fn search_all(search: Search, groups: &[Vec<Entry>]) -> Searched {
+    let mut all = Searched { tried: 0, sum: 0 };
+    'groups: for entries in groups {
+        let (tried, sum) = match search.least(entries.as_slice()) {
             Some(found) => (
                 u64::from(found.index) + 1,
                 u64::from(found.index) * 256 + u64::from(found.array),
@@ -28,12 +59,11 @@ pub fn groups(alloc: Global, seed: u64, groups: u64, keys: u64) -> Result<Search
         all.tried = all.tried.wrapping_add(tried);
         all.sum = all.sum.wrapping_add(sum);
     }
-    Ok(all)
+    all
 }
 
-/// Puts the entries of a group in the place of those that were there.
-fn fill(entries: &mut Vec<Entry>, seed: u64, keys: u64) -> Result<(), AllocError> {
-    entries.clear();
+fn entries(alloc: Global, seed: u64, keys: u64) -> Result<Vec<Entry>, AllocError> {
+    let mut entries = Vec::new(alloc);
     'keys: for number in 0..keys {
         let key = key(seed, number);
         entries.push(Entry {
@@ -42,5 +72,5 @@ fn fill(entries: &mut Vec<Entry>, seed: u64, keys: u64) -> Result<(), AllocError
             node: (draw(seed, number) >> 60) as u8,
         })?;
     }
-    Ok(())
+    Ok(entries)
 }

@@ -1,6 +1,10 @@
-use crate::{choosing, searching, work};
+use crate::searching::Search;
+use crate::{building, choosing, searching, work};
+use flow_types::Shape;
+use setsep_build::build;
 use std::io;
 use std::rt::Clock;
+use std::thread::Threads;
 use std::time::{Duration, Instant};
 
 /// How many keys are hashed, blocks laid out, and groups searched.
@@ -10,8 +14,11 @@ const BLOCKS: u64 = 2_000;
 
 const GROUPS: u64 = 1_000;
 
+/// How many flows the table is built of, at four nodes and 256 blocks.
+const FLOWS: u32 = 262_144;
+
 /// Prints a line for each work: its name, what was done how often, the nanoseconds, and the checksum.
-pub fn figures(rt: &(impl Print + AllocGlobal + Clock)) -> io::Result<()> {
+pub fn figures(rt: &(impl Print + AllocGlobal + Clock + Threads)) -> io::Result<()> {
     let start = Instant::now(rt)?;
     let sum = work::places(1, KEYS);
     line(rt, "place", KEYS, start.elapsed(rt)?, sum)?;
@@ -25,18 +32,45 @@ pub fn figures(rt: &(impl Print + AllocGlobal + Clock)) -> io::Result<()> {
     line(rt, "choose", BLOCKS, start.elapsed(rt)?, sum)?;
 
     searches(rt, 16, GROUPS)?;
-    searches(rt, 20, GROUPS / 10)
+    searches(rt, 20, GROUPS / 10)?;
+    table(rt)
 }
 
-/// Searches so many groups of so many keys: a line for the groups, and one for the indexes tried.
+/// Searches so many groups of so many keys, in lanes and plainly.
 fn searches(rt: &(impl Print + AllocGlobal + Clock), keys: u64, groups: u64) -> io::Result<()> {
+    let made = searching::groups(rt.alloc(), 1, groups, keys)?;
+    'searches: for (search, name) in [(Search::Lanes, "least"), (Search::Plain, "least_plain")] {
+        let start = Instant::now(rt)?;
+        let found = searching::search_all(search, made.as_slice());
+        let taken = start.elapsed(rt)?;
+        let groups_name = format_args!("{name}_of_{keys}_keys:groups");
+        line(rt, groups_name, groups, taken, found.sum)?;
+        let indexes_name = format_args!("{name}_of_{keys}_keys:indexes");
+        line(rt, indexes_name, found.tried, taken, found.sum)?;
+    }
+    Ok(())
+}
+
+/// Builds a table and looks each key up in its images.
+fn table(rt: &(impl Print + AllocGlobal + Clock + Threads)) -> io::Result<()> {
+    let Some(shape) = Shape::new(4, 256) else {
+        return Ok(());
+    };
+    let flows = building::flows(rt.alloc(), shape, FLOWS)?;
     let start = Instant::now(rt)?;
-    let found = searching::groups(rt.alloc(), 1, groups, keys)?;
-    let taken = start.elapsed(rt)?;
-    let name = format_args!("least_of_{keys}_keys:groups");
-    line(rt, name, groups, taken, found.sum)?;
-    let name = format_args!("least_of_{keys}_keys:indexes");
-    line(rt, name, found.tried, taken, found.sum)
+    let Ok(images) = build(rt, rt.alloc(), shape, flows.as_slice(), 1) else {
+        return println!(rt; "not built");
+    };
+    line(
+        rt,
+        "build_a_key",
+        u64::from(FLOWS),
+        start.elapsed(rt)?,
+        images.len() as u64,
+    )?;
+    let start = Instant::now(rt)?;
+    let found = building::found(shape, images.as_slice(), flows.as_slice());
+    line(rt, "look", u64::from(FLOWS), start.elapsed(rt)?, found)
 }
 
 fn line(

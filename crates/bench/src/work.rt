@@ -1,8 +1,11 @@
 use crate::keys::key;
-use crate::{choosing, searching};
+use crate::searching::Search;
+use crate::{building, choosing, searching};
 use flow_types::Shape;
 use hash_family::{pair, place};
+use setsep_build::build;
 use std::io;
+use std::thread::Threads;
 
 /// The places of so many keys, added up.
 pub fn places(seed: u64, keys: u64) -> u64 {
@@ -30,16 +33,31 @@ pub fn pairs(seed: u64, keys: u64) -> u64 {
 }
 
 /// Prints a checksum of each work.
-pub fn checksums(rt: &(impl Print + AllocGlobal)) -> io::Result<()> {
+pub fn checksums(rt: &(impl Print + AllocGlobal + Threads)) -> io::Result<()> {
     println!(rt; "places {}", places(1, 1000))?;
     println!(rt; "pairs {}", pairs(1, 1000))?;
     println!(rt; "choices {}", choosing::choices(1, 20))?;
     'sizes: for keys in [0, 1, 7, 16, 20] {
-        let found = searching::groups(rt.alloc(), 1, 20, keys)?;
+        let groups = searching::groups(rt.alloc(), 1, 20, keys)?;
+        let found = searching::search_all(Search::Lanes, groups.as_slice());
+        let plain = searching::search_all(Search::Plain, groups.as_slice());
         println!(rt;
-            "least of {keys} keys: tried {} sum {}",
-            found.tried, found.sum
+            "least of {keys} keys: tried {} sum {} plain {}",
+            found.tried, found.sum, plain.sum
         )?;
     }
-    Ok(())
+    looks(rt)
+}
+
+/// Prints how many of 2,000 flows their table sends to their nodes.
+fn looks(rt: &(impl Print + AllocGlobal + Threads)) -> io::Result<()> {
+    let Some(shape) = Shape::new(4, 4) else {
+        return Ok(());
+    };
+    let flows = building::flows(rt.alloc(), shape, 2_000)?;
+    let Ok(images) = build(rt, rt.alloc(), shape, flows.as_slice(), 1) else {
+        return println!(rt; "not built");
+    };
+    let found = building::found(shape, images.as_slice(), flows.as_slice());
+    println!(rt; "found {found} of {}", flows.len())
 }

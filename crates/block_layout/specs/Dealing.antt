@@ -5,14 +5,19 @@ use Rattle.std.specs.List.Sorted.{IsPermutation}
 use Rattle.block_layout.specs.Candidate.{candidate}
 use Rattle.block_layout.specs.Choices.{none_chosen}
 use Rattle.block_layout.specs.declared.dealing.Dealt.{Dealt}
-use Rattle.block_layout.specs.declared.limits.TheConstants.{BUCKETS, GROUPS, CANDIDATES, MOST_KEYS}
+use Rattle.block_layout.specs.Limits.{bucket_count, group_count, candidate_count, most_keys}
 
+-- the buckets of a block, by rising number
 unfoldable pub buckets : List ℕ
-buckets = range_with_len 0 BUCKETS
+buckets = range_with_len 0 bucket_count
+
+-- the groups of a block, by rising number
+abbrev pub groups : List ℕ
+groups = range_with_len 0 group_count
 
 -- a bucket with more keys has the lower rank, and of two with as many keys the lower bucket
 unfoldable pub rank : List ℕ → ℕ → ℕ
-rank sizes bucket = (MOST_KEYS - slice_index sizes bucket) * BUCKETS + bucket
+rank sizes bucket = (most_keys - slice_index sizes bucket) * bucket_count + bucket
 
 -- the buckets with one more, which comes before those of higher ranks
 abbrev pub placed_by : (ℕ → ℕ) → ℕ → List ℕ → List ℕ
@@ -36,7 +41,7 @@ first_least load (suc n) = if nat_lt (load (suc n)) (load (first_least load n)) 
 
 -- the bucket's candidate whose group has the fewest keys
 unfoldable pub least_loaded : List ℕ → ℕ → ℕ
-least_loaded loads bucket = first_least (λ choice. slice_index loads (candidate bucket choice)) (CANDIDATES - 1)
+least_loaded loads bucket = first_least (λ choice. slice_index loads (candidate bucket choice)) (candidate_count - 1)
 
 -- the loads with so many keys more in this group
 abbrev pub with_load : List ℕ → ℕ → ℕ → List ℕ
@@ -52,7 +57,7 @@ deal sizes dealt bucket =
     }
 
 unfoldable pub none_dealt : Dealt
-none_dealt = record { loads = replicate GROUPS 0; choices = none_chosen }
+none_dealt = record { loads = replicate group_count 0; choices = none_chosen }
 
 -- the choices once all buckets are dealt out
 unfoldable pub choices_of : List ℕ → List ℕ
@@ -66,7 +71,7 @@ ComesFirst sizes bucket other =
 -- all buckets stand in the order, those with more keys first, and of two with as many the lower first
 pub record IsOrder (sizes order : List ℕ) : Type 0 where
   pub all : IsPermutation buckets order
-  pub falling : (i j : ℕ) → i ≤ j → j < BUCKETS → ComesFirst sizes (slice_index order i) (slice_index order j)
+  pub falling : (i j : ℕ) → i ≤ j → j < bucket_count → ComesFirst sizes (slice_index order i) (slice_index order j)
 
 -- c is the first of 0 to n where the load is least
 pub record IsFirstLeast (load : ℕ → ℕ) (n c : ℕ) : Type 0 where
@@ -76,5 +81,5 @@ pub record IsFirstLeast (load : ℕ → ℕ) (n c : ℕ) : Type 0 where
 
 -- a choice for each bucket
 pub record AreChoices (choices : List ℕ) : Type 0 where
-  pub all : length choices ≡ BUCKETS
-  pub below : All (λ choice. choice < CANDIDATES) choices
+  pub all : length choices ≡ bucket_count
+  pub below : All (λ choice. choice < candidate_count) choices

@@ -1,3 +1,4 @@
+pub mod Limits
 pub mod Candidate
 pub mod Choices
 pub mod Dealing

@@ -1,7 +1,7 @@
 -- Four choices in an octet.
 use Rattle.std.proofs.Common.{◌≡◌, ℕ, ◌+◌, ◌*◌, ◌/◌, ◌%◌, ◌^◌, ◌<◌, List, length, get_or, refl, sym, ◌∙◌, arith}
 use Rattle.std.proofs.lemmas.List.FromFn.{length-map-range_with_len, get_or-map-range_with_len, fill_by_all}
-use Rattle.block_layout.specs.Choices.{choice_at, choices_in, octet_at, octets, AreOctets}
+use Rattle.block_layout.specs.Choices.{choice_at, choices_in, octet_at, choice_octets, AreOctets}
 
 pub length-choices_in : (bytes : List ℕ) → length (choices_in bytes) ≡ 256
 unfolding choices_in
@@ -21,8 +21,8 @@ choice_in_octet bytes bucket k i hk hi e =
 quarters : (octet a b c d : ℕ) → octet < 256 → a ≡ octet / 1 % 4 → b ≡ octet / 4 % 4 → c ≡ octet / 16 % 4 → d ≡ octet / 64 % 4 → octet ≡ a + 4 * b + 16 * c + 64 * d
 quarters octet a b c d h ha hb hc hd = omega arith
 
-pub octets_back : (bytes : List ℕ) → AreOctets bytes → octets (choices_in bytes) ≡ bytes
-unfolding octets
+pub octets_back : (bytes : List ℕ) → AreOctets bytes → choice_octets (choices_in bytes) ≡ bytes
+unfolding choice_octets
 octets_back bytes are =
     sym (fill_by_all (octet_at (choices_in bytes)) bytes 64 0 are.all (λ k h.
     quarters (get_or bytes k 0) _ _ _ _ (are.fit k 0 (omega arith))

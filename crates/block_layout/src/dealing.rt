@@ -1,7 +1,7 @@
 ghost use Rattle.std.specs.Prelude.{◌≡◌, ℕ, ◌+◌, ◌^◌, ◌≤◌, ◌<◌, sum};
 ghost use Rattle.std.specs.List.{All};
 ghost use Rattle.block_layout.specs.Dealing as dealing;
-ghost use Rattle.block_layout.specs.declared.limits.TheConstants.{CANDIDATES, MOST_KEYS};
+ghost use Rattle.block_layout.specs.Limits.{candidate_count, most_keys};
 
 use crate::candidates::candidate;
 use crate::choices::Choices;
@@ -12,7 +12,7 @@ use crate::ranking::{bucket_of, ranks_in_order};
 /// by falling number of keys, of two alike the lower first. Each goes to the candidate whose group has the fewest keys
 /// so far, of two alike the lower candidate.
 pub fn choose(sizes: &[u16; 256]) -> Choices
-    requires { sum sizes.now ≤ MOST_KEYS }
+    requires { sum sizes.now ≤ most_keys }
     ensures { result ≡ dealing.choices_of sizes.now }
 {
     let mut dealt = Dealt::none();
@@ -56,7 +56,7 @@ impl Dealt {
 /// The candidate of a bucket whose group has the fewest keys, the lower of two alike.
 fn least_loaded(loads: &[u32; 64], bucket: u8) -> u8
     ensures value { result ≡ dealing.least_loaded loads.now bucket }
-    ensures below { result < CANDIDATES }
+    ensures below { result < candidate_count }
 {
     let mut least = 0;
     'choices: for choice in 1..CANDIDATES {

@@ -1,13 +1,13 @@
 ghost use Rattle.std.specs.Prelude.{◌≡◌, ◌≤◌, ◌%◌, map, sum};
 ghost use Rattle.block_layout.specs.Dealing.{rank, buckets, order_of};
-ghost use Rattle.block_layout.specs.declared.limits.TheConstants.{BUCKETS, MOST_KEYS};
+ghost use Rattle.block_layout.specs.Limits.{bucket_count, most_keys};
 
 use crate::limits::{BUCKETS, MOST_KEYS};
 
 /// The ranks of the buckets in the order in which they are dealt out. A bucket with more keys has the lower rank, and
 /// of two with as many keys the lower bucket has it.
 pub(crate) fn ranks_in_order(sizes: &[u16; 256]) -> [u32; 256]
-    requires { sum sizes.now ≤ MOST_KEYS }
+    requires { sum sizes.now ≤ most_keys }
     ensures { result ≡ map (rank sizes.now) (order_of sizes.now) }
 {
     let mut ranks = ranks_of(sizes);
@@ -16,7 +16,7 @@ pub(crate) fn ranks_in_order(sizes: &[u16; 256]) -> [u32; 256]
 }
 
 fn ranks_of(sizes: &[u16; 256]) -> [u32; 256]
-    requires { sum sizes.now ≤ MOST_KEYS }
+    requires { sum sizes.now ≤ most_keys }
     ensures { result ≡ map (rank sizes.now) buckets }
 {
     let mut ranks = [0; BUCKETS];
@@ -28,7 +28,7 @@ fn ranks_of(sizes: &[u16; 256]) -> [u32; 256]
 
 /// The bucket of a rank.
 pub(crate) fn bucket_of(rank: u32) -> u8
-    ensures { result ≡ rank % BUCKETS }
+    ensures { result ≡ rank % bucket_count }
 {
     (rank % BUCKETS as u32) as u8
 }

@@ -62,4 +62,5 @@ fn laws_can_be_called() {
     laws::order_is_by_size(&[6; 256]);
     laws::first_least_is_least();
     laws::choices_are_of_all_buckets(&[6; 256]);
+    laws::the_limits_are();
 }

@@ -17,7 +17,7 @@ use Rattle.cluster_replay.specs.FirstBad.{AreReadable, SayEvents, IsScript, Brea
 use Rattle.cluster_replay.specs.Limits.{fault_of_limit}
 use Rattle.cluster_replay.specs.Replies.{replayed}
 use Rattle.cluster_replay.specs.Report.{report}
-use Rattle.cluster_replay.specs.Outcome.{opened, outcome, outcome_of_build, outcome_of_rows, outcome_of_script}
+use Rattle.cluster_replay.specs.Outcome.{opened, outcome, outcome_of_build, outcome_of_rows}
 use Rattle.cluster_replay.specs.Script.{script_next, script_from, script_of, script_row}
 
 -- what an event's row says

@@ -1,8 +1,11 @@
-mod Pushed
 mod Counts
-mod Lines
-mod Flows
+mod LineByLine
+mod Words
+mod Replied
+mod FibFacts
+mod Found
 mod Scripts
 mod Nodes
 pub mod PathFacts
 pub mod FirstBadFacts
+pub mod RunFacts

@@ -1,34 +1,27 @@
--- The replies to packets are paths.
-use Rattle.std.proofs.Common.{◌≡◌, ◌∙◌, ◌+◌, ◌==◌, ◌<◌, ℕ, zero, suc, add-one, Bool, true, false, cond, List, [], ◌∷◌, get_or, Option, Some, None, Ok, refl, sym, ap, subst, arith, inl, inr, Contains}
-use Rattle.std.specs.Prelude.{All, ◌⊎◌, ◌&&◌}
-use Rattle.std.proofs.lemmas.Bool.{eqb-true}
-use Rattle.std.proofs.lemmas.List.{get_or_default}
+-- The replies to packets are paths, and go where the canonical records send them.
+use Rattle.std.proofs.Common.{◌≡◌, ◌∙◌, ◌==◌, ℕ, Bool, true, false, List, [], ◌∷◌, Option, Some, None, refl, sym, ap, subst, arith, eq-eqb, Contains}
+use Rattle.std.specs.Prelude.{◌&&◌, find, option_map}
+use Rattle.std.specs.Cmp.Derive.{both_true}
+use Rattle.std.proofs.lemmas.Bool.{eqb-true, true≢false}
 use Rattle.flow_types.specs.declared.key.FlowKey.{FlowKey}
 use Rattle.flow_types.specs.declared.record.Flow.{Flow}
 use Rattle.flow_types.specs.declared.record.Record.{Record}
-use Rattle.flow_types.specs.Size.{Size}
-use Rattle.csv_rows.specs.Rows.{rows}
-use Rattle.flow_reader.specs.Opening.{opening_of, same_key}
-use Rattle.flow_reader.specs.declared.opening.Opening.{Opening}
-use Rattle.cluster_replay.specs.Outcome.{opened}
+use Rattle.flow_reader.specs.Opening.{same_key}
 use Rattle.flow_reader.proofs.KeyFacts.{same_key-refl, same_key-true}
+use Rattle.group_search.specs.Home.{Home, home, is_home, opening}
 use Rattle.group_search.specs.Records.{AreHandled}
 use Rattle.replica_shard.proofs.Below.{routed_below}
 use Rattle.replica_shard.specs.Routed.{ReachesHandlers, routed}
 use Rattle.cluster_replay.specs.declared.event.Event.{Event}
 use Rattle.cluster_replay.specs.declared.event.Event.TheVariants.{Packet}
-use Rattle.cluster_replay.specs.Path.{Knows, Path, ArePaths, AtOpening, GoesByPaths, Route}
-use Rattle.cluster_replay.specs.Replies.{answer, is_handled, record_after, record_at, reply_from, reply_to, replayed}
+use Rattle.cluster_replay.specs.Headline.{AreRouted, named_node}
+use Rattle.cluster_replay.specs.Path.{Knows, Path, ArePaths, AtOpening, Route}
+use Rattle.cluster_replay.specs.Replies.{answer, fib_record, is_handled, reply_from, reply_to, replayed}
 use Rattle.cluster_replay.specs.State.{State}
+use Rattle.cluster_replay.proofs.Found.{found-there, none-there, kept-there, there-kept}
 
--- one more flow before a list keeps what is in it
-contains-later : (first : Flow) (flows : List Flow) (flow : Flow) → Contains flows flow → Contains (first ∷ flows) flow
-contains-later first flows flow (k, within, is) = (k + 1, omega arith, rw add-one is)
-
--- a flow of one more flow and a list stands first or later
-contains-cases : (first : Flow) (flows : List Flow) (flow : Flow) → Contains (first ∷ flows) flow → (first ≡ flow) ⊎ Contains flows flow
-contains-cases first flows flow (zero, within, is) = inl is
-contains-cases first flows flow (suc k, within, is) = inr (k, omega arith, is)
+is_home-refl : (at : Home) → is_home at at ≡ true
+is_home-refl at = both_true (eq-eqb at.block at.block refl) (eq-eqb at.group at.group refl)
 
 both : (a b : Bool) → (a && b) ≡ true → (a ≡ true) × (b ≡ true)
 both true b e = (refl, e)
@@ -51,75 +44,92 @@ module _ (node : ℕ) (key : FlowKey) where
   unfolding flow_with
   handled_with info = let keys = same_key-refl key in grind (arith, keys)
 
-  -- a record that is found stood there before, or is that of a flow with this key at this node
-  found : (flows : List Flow) (there : Option Record) (info : Record) → record_after node there flows key ≡ Some info → (there ≡ Some info) ⊎ Contains flows (flow_with info)
-  found [] there info e = inl e
-  found (first ∷ flows) there info e = by (is_handled node key first) refl (found flows _ info e)
+  -- the record that is found is that of a flow with this key at this node
+  found : (flows : List Flow) (info : Record) → fib_record node flows key ≡ Some info → Contains flows (flow_with info)
+  unfolding fib_record
+  found flows info e = by (find (is_handled node key) flows) refl e
     where
-      by : (b : Bool) → is_handled node key first ≡ b → (cond b (Some first.info) there ≡ Some info) ⊎ Contains flows (flow_with info)
-          → (there ≡ Some info) ⊎ Contains (first ∷ flows) (flow_with info)
-      by b e (inr within) = inr (contains-later first flows (flow_with info) within)
-      by true e (inl is) =
-          let same : first.info ≡ info = cc in
-          inr (0, omega arith, handled_is first e ∙ ap flow_with same)
-      by false e (inl is) = inl is
+      by : (o : Option Flow) → find (is_handled node key) flows ≡ o → option_map (λ (flow : Flow). flow.info) o ≡ Some info → Contains flows (flow_with info)
+      by None none is = absurd cc
+      by (Some flow) finds is =
+          let there = found-there (is_handled node key) flows flow finds in
+          let same : flow.info ≡ info = cc in
+          subst (Contains flows) (handled_is flow there.1 ∙ ap flow_with same) there.0
 
   -- where none is found, none of the flows has this key at this node
-  missing : (flows : List Flow) (there : Option Record) → record_after node there flows key ≡ None → (there ≡ None) × ((info : Record) → ¬ Contains flows (flow_with info))
-  missing [] there e = (e, λ info there. absurd (omega (arith, there.1)))
-  missing (first ∷ flows) there e = by (is_handled node key first) refl (missing flows _ e)
+  missing : (flows : List Flow) → fib_record node flows key ≡ None → (info : Record) → ¬ Contains flows (flow_with info)
+  unfolding fib_record
+  missing flows e info there = by (find (is_handled node key) flows) refl e
     where
-      by : (b : Bool) → is_handled node key first ≡ b → (cond b (Some first.info) there ≡ None) × ((info : Record) → ¬ Contains flows (flow_with info))
-          → (there ≡ None) × ((info : Record) → ¬ Contains (first ∷ flows) (flow_with info))
-      by true e rest = let none = rest.0 in cc
-      by false e rest = (rest.0, λ info within. other info (contains-cases first flows (flow_with info) within))
-        where
-          other : (info : Record) → (first ≡ flow_with info) ⊎ Contains flows (flow_with info) → ⊥
-          other info (inl is) =
-              let sure = handled_with info in
-              let same : is_handled node key first ≡ is_handled node key (flow_with info) = ap (is_handled node key) is in
-              cc
-          other info (inr later) = rest.1 info later
+      by : (o : Option Flow) → find (is_handled node key) flows ≡ o → option_map (λ (flow : Flow). flow.info) o ≡ None → ⊥
+      by None none is = true≢false (sym (handled_with info) ∙ none-there (is_handled node key) flows (flow_with info) none there)
+      by (Some flow) finds is = absurd cc
 
-module _ (size : Size) (flows : List Flow) (handled : AreHandled size.nodes flows) (reached : ReachesHandlers size flows) (key : FlowKey) where
-  now : AtOpening flows 0 flows
+module _ (state : State) (handled : AreHandled state.size.nodes state.flows) (reached : ReachesHandlers state.size state.flows) (key : FlowKey) where
+  -- the flows of the key's group
+  group : List Flow
+  group = opening state.size.blocks state.flows (home state.size.blocks state.flows key)
+
+  now : AtOpening state key 0 group
+  unfolding group
   now = record { first = refl; same = refl }
 
+  -- a flow with this key is one of all flows exactly where it is one of its group
+  of_all : (node : ℕ) (info : Record) → Knows group key node info → Knows state.flows key node info
+  unfolding group opening
+  of_all node info knows = kept-there _ state.flows _ knows
+
+  of_group : (node : ℕ) (info : Record) → Knows state.flows key node info → Knows group key node info
+  unfolding group opening
+  of_group node info knows = there-kept _ state.flows _ knows (is_home-refl (home state.size.blocks state.flows key))
+
   -- a known flow's key is sent to its handler
-  known_to : (node : ℕ) (info : Record) → Knows flows key node info → routed size flows key ≡ Some node
-  known_to node info (k, within, is) =
-      let flow : Flow = record { key = key; node = node; info = info } in
-      let sent = reached k flow within in
-      subst (λ (f : Flow). routed size flows f.key ≡ Some f.node) is sent
-
-  route : (to : Option ℕ) → routed size flows key ≡ to → Route size.nodes flows key to
-  route None is = record { known = λ node info knows. sym is ∙ known_to node info knows; unknown = λ none. tt }
-  route (Some to) is = record { known = λ node info knows. sym is ∙ known_to node info knows; unknown = λ none. routed_below size flows key to handled is }
-
-  answered : (node : ℕ) (said : Option Record) → record_at node flows key ≡ said → routed size flows key ≡ Some node → Path size.nodes (AtOpening flows) key (answer node 0 0 said)
-  unfolding record_at flow_with
-  answered node (Some info) is sent = (flows, flows, now, now, route (Some node) sent, known (found node key flows None info is))
+  known_to : (node : ℕ) (info : Record) → Knows group key node info → routed state.size state.flows key ≡ Some node
+  known_to node info knows = by (of_all node info knows)
     where
-      known : (◌≡◌ {A = Option Record} None (Some info)) ⊎ Contains flows (flow_with node key info) → Knows flows key node info
-      known (inl never) = absurd cc
-      known (inr within) = within
-  answered node None is sent = (flows, flows, now, now, route (Some node) sent, (missing node key flows None is).1)
+      by : Knows state.flows key node info → routed state.size state.flows key ≡ Some node
+      by (k, within, is) =
+          let flow : Flow = record { key = key; node = node; info = info } in
+          let sent = reached k flow within in
+          subst (λ (f : Flow). routed state.size state.flows f.key ≡ Some f.node) is sent
 
-  reply-path : (to : Option ℕ) → routed size flows key ≡ to → Path size.nodes (AtOpening flows) key (reply_from flows key to)
-  reply-path (Some node) sent = answered node (record_at node flows key) refl sent
-  reply-path None sent = (flows, now, route None sent)
+  route : (to : Option ℕ) → routed state.size state.flows key ≡ to → Route state.size.nodes group key to
+  route None is = record { known = λ node info knows. sym is ∙ known_to node info knows; unknown = λ none. tt }
+  route (Some to) is = record { known = λ node info knows. sym is ∙ known_to node info knows; unknown = λ none. routed_below state.size state.flows key to handled is }
+
+  answered : (node : ℕ) (said : Option Record) → fib_record node state.flows key ≡ said → routed state.size state.flows key ≡ Some node
+      → Path state.size.nodes (AtOpening state key) key (answer node 0 0 said)
+  unfolding flow_with
+  answered node (Some info) is sent =
+      (group, group, now, now, route (Some node) sent, of_group node info (found node key state.flows info is))
+  answered node None is sent =
+      (group, group, now, now, route (Some node) sent, λ info knows. missing node key state.flows is info (of_all node info knows))
+
+  reply-path : (to : Option ℕ) → routed state.size state.flows key ≡ to → Path state.size.nodes (AtOpening state key) key (reply_from state.flows key to)
+  reply-path (Some node) sent = answered node (fib_record node state.flows key) refl sent
+  reply-path None sent = (group, now, route None sent)
+
+  -- the reply names the node that the key is sent to
+  reply-node : (to : Option ℕ) → named_node (reply_from state.flows key to) ≡ to
+  reply-node None = refl
+  reply-node (Some node) = by (fib_record node state.flows key)
+    where
+      by : (said : Option Record) → named_node (answer node 0 0 said) ≡ Some node
+      by None = refl
+      by (Some info) = refl
 
 -- so each packet of a script has a path
 pub replayed_paths : (state : State) (script : List Event) → AreHandled state.size.nodes state.flows → ReachesHandlers state.size state.flows
-    → ArePaths state.size.nodes (AtOpening state.flows) script (replayed state script)
+    → ArePaths state.size.nodes (AtOpening state) script (replayed state script)
 unfolding replayed reply_to
 replayed_paths state [] handled reached = tt
 replayed_paths state (Packet ingress key ∷ script) handled reached =
-    (reply-path state.size state.flows handled reached key (routed state.size state.flows key) refl, replayed_paths state script handled reached)
+    (reply-path state handled reached key (routed state.size state.flows key) refl, replayed_paths state script handled reached)
 
--- so it is for every script over an opening that was read and built
-pub goes_by_paths : (bytes : List ℕ) (opening : Opening) → opening_of (rows bytes) ≡ Ok opening → AreHandled opening.shape.nodes opening.flows
-    → ReachesHandlers opening.shape opening.flows → GoesByPaths bytes
-goes_by_paths bytes opening opens handled reached = λ other script also.
-    let same : opening ≡ other = cc in
-    subst (λ (o : Opening). ArePaths o.shape.nodes (AtOpening o.flows) script (replayed (opened o) script)) same (replayed_paths (opened opening) script handled reached)
+-- and goes where the records send it
+pub replayed_routes : (state : State) (script : List Event) → AreHandled state.size.nodes state.flows → ReachesHandlers state.size state.flows
+    → AreRouted state script (replayed state script)
+unfolding replayed reply_to
+replayed_routes state [] handled reached = tt
+replayed_routes state (Packet ingress key ∷ script) handled reached =
+    (reply-node state handled reached key (routed state.size state.flows key), replayed_routes state script handled reached)

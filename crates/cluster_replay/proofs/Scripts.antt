@@ -1,5 +1,5 @@
 -- A script with one more row.
-use Rattle.std.proofs.Common.{ℕ, ◌≡◌, ◌∙◌, ◌+◌, ◌<◌, Bool, true, false, cond, List, [], ◌++◌, length, drop, drop-cons, add-one, append-nil, Option, Some, None, is_none, option_to_list, Result, Ok, Err, ap, sym, subst, refl}
+use Rattle.std.proofs.Common.{ℕ, ◌≡◌, ◌∙◌, ◌+◌, Bool, true, false, cond, List, [], ◌++◌, length, add-one, append-nil, Option, Some, None, is_none, option_to_list, Result, Ok, Err, ap, sym, subst, refl}
 use Rattle.std.specs.Prelude.{All, IfSome}
 use Rattle.csv_rows.specs.Rows.{Row, TakesRow}
 use Rattle.flow_types.specs.declared.why.Why.{Why}
@@ -8,12 +8,7 @@ use Rattle.flow_types.specs.declared.why.BadRow.{BadRow}
 use Rattle.flow_reader.specs.Opening.{bad_row}
 use Rattle.cluster_replay.specs.declared.event.Event.{Event}
 use Rattle.cluster_replay.specs.Script.{IsFormed, script_next, script_from, script_of, row_after}
-use Rattle.cluster_replay.proofs.Pushed.{each_pushed}
-
--- one more row skipped
-pub row_skipped : (found : Bool) (all before after : List Row) (row : Row) (i : ℕ) → i < length all → before ≡ drop i all → TakesRow found before row after → after ≡ drop (i + 1) all
-row_skipped true all before after row i inside left takes = let more = drop-cons all i row inside in rw add-one cc
-row_skipped false all before after row i inside left takes = let more = drop-cons all i row inside in cc
+use Rattle.flow_types.proofs.Elements.{each_pushed}
 
 -- no row was read yet
 pub script_begins : (nodes begin_row : ℕ) (rest : List Row) → script_from nodes rest false [] (begin_row + 1) ≡ script_of nodes begin_row rest

@@ -8,19 +8,19 @@ use Rattle.flow_types.specs.Size.{Size}
 use Rattle.flow_reader.specs.Opening.{same_key}
 use Rattle.group_search.specs.Records.{AreHandled}
 use Rattle.replica_shard.specs.Routed.{ReachesHandlers}
-use Rattle.cluster_replay.specs.Replies.{record_at}
+use Rattle.cluster_replay.specs.Replies.{fib_record}
 use Rattle.cluster_replay.specs.Tables.{AreShards}
-use Rattle.cluster_replay.specs.declared.directory.Directory.{Directory}
+use Rattle.cluster_replay.specs.declared.fib.Fib.{Fib}
 use Rattle.cluster_replay.specs.declared.node.Node.{Node}
 
--- the record that a directory has at a key
-abbrev pub record_in : Directory → FlowKey → Option Record
-record_in directory = get same_key directory.records
+-- the record that a FIB has of a key
+abbrev pub record_of_key : Fib → FlowKey → Option Record
+record_of_key fib = get same_key fib.records
 
--- the node of this number: its tables, and the records of the flows that it handles
+-- the node of this number: its tables, and the FIB of the flows that it handles
 pub record IsNode (size : Size) (flows : List Flow) (number : ℕ) (node : Node) : Type 0 where
   pub shards : AreShards size flows node.shards.items
-  pub records : (key : FlowKey) → record_in node.records key ≡ record_at number flows key
+  pub fib : (key : FlowKey) → record_of_key node.fib key ≡ fib_record number flows key
 
 -- all nodes of a cluster
 pub record AreNodes (size : Size) (flows : List Flow) (nodes : List Node) : Type 0 where

@@ -8,3 +8,4 @@ pub mod Script
 pub mod Outcome
 pub mod Path
 pub mod FirstBad
+pub mod Headline

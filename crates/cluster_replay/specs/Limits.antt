@@ -1,5 +1,5 @@
 -- The faults of blocks that are past a limit.
-use Rattle.std.specs.Prelude.{◌≡◌, Option, Some, option_map}
+use Rattle.std.specs.Prelude.{◌≡◌, Option, Some, None, IfSome, option_map}
 use Rattle.group_search.specs.Build.{PastLimit}
 use Rattle.group_search.specs.Build.PastLimit.{TooManyFlows, TooManyRows}
 use Rattle.setsep_build.specs.declared.refused.BuildRefused.{BuildRefused}
@@ -12,6 +12,13 @@ abbrev pub fault_of_limit : PastLimit → InputFault
 fault_of_limit (TooManyFlows block) = BlockFull block
 fault_of_limit (TooManyRows block needed) = RowsFull block
 
+-- the fault that an input has; none at want of memory
+abbrev pub named_fault : InputFault → Option InputFault
+named_fault (Bad bad) = Some (Bad bad)
+named_fault (BlockFull block) = Some (BlockFull block)
+named_fault (RowsFull block) = Some (RowsFull block)
+named_fault OutOfMemory = None
+
 -- the fault of a build that was refused
 abbrev pub fault_of_build : BuildRefused → InputFault
 fault_of_build (refused.BlockFull block) = BlockFull block
@@ -20,7 +27,4 @@ fault_of_build refused.OutOfMemory = OutOfMemory
 
 -- the fault is that of what is past a limit, or want of memory
 abbrev pub IsCausedBy : Option PastLimit → InputFault → Type 0
-IsCausedBy past (Bad bad) = ⊥
-IsCausedBy past (BlockFull block) = option_map fault_of_limit past ≡ Some (BlockFull block)
-IsCausedBy past (RowsFull block) = option_map fault_of_limit past ≡ Some (RowsFull block)
-IsCausedBy past OutOfMemory = Unit {0}
+IsCausedBy past fault = IfSome (named_fault fault) (λ named. option_map fault_of_limit past ≡ Some named)

@@ -1,6 +1,5 @@
 -- What an input comes to.
-use Rattle.std.specs.Prelude.{◌≡◌, ℕ, List, drop, Option, Some, None, Result, Ok, Err, Vec}
-use Rattle.std.specs.Global.{Global}
+use Rattle.std.specs.Prelude.{ℕ, List, drop, Option, Some, None, Result, Ok, Err}
 use Rattle.csv_rows.specs.Rows.{Row, rows}
 use Rattle.flow_reader.specs.Opening.{opening_of}
 use Rattle.flow_reader.specs.declared.opening.Opening.{Opening}
@@ -9,7 +8,7 @@ use Rattle.flow_reader.specs.declared.opening.RowRefused.TheVariants as refused
 use Rattle.flow_types.specs.declared.why.BadRow.{BadRow}
 use Rattle.cluster_replay.specs.declared.event.Event.{Event}
 use Rattle.cluster_replay.specs.declared.fault.InputFault.{InputFault}
-use Rattle.cluster_replay.specs.declared.fault.InputFault.TheVariants.{Bad, BlockFull, RowsFull, OutOfMemory}
+use Rattle.cluster_replay.specs.declared.fault.InputFault.TheVariants.{Bad, OutOfMemory}
 use Rattle.group_search.specs.Build.{PastLimit, past_limit}
 use Rattle.cluster_replay.specs.Limits.{fault_of_limit}
 use Rattle.cluster_replay.specs.Replies.{replayed}
@@ -39,14 +38,6 @@ outcome_of_rows all (Err bad) = Err (Bad bad)
 -- what an input comes to: its report, or its first bad row, or else the first block that is past a limit
 unfoldable pub outcome : List ℕ → Result (List ℕ) InputFault
 outcome bytes = outcome_of_rows (rows bytes) (opening_of (rows bytes))
-
--- a run gave the outcome, or memory was lacking
-abbrev pub Gives : Result (Vec ℕ Global) InputFault → Result (List ℕ) InputFault → Type 0
-Gives (Ok made) what = what ≡ Ok made.items
-Gives (Err (Bad bad)) what = what ≡ Err (Bad bad)
-Gives (Err (BlockFull block)) what = what ≡ Err (BlockFull block)
-Gives (Err (RowsFull block)) what = what ≡ Err (RowsFull block)
-Gives (Err OutOfMemory) what = Unit {0}
 
 -- the fault of rows that were refused
 abbrev pub fault_of : RowRefused → InputFault

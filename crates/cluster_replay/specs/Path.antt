@@ -1,14 +1,11 @@
 -- The paths that a packet may take. Its ingress sends it by one version of its flow's group, and the node that it is sent
 -- to answers by one version of that group.
-use Rattle.std.specs.Prelude.{◌≡◌, ℕ, ◌<◌, List, [], ◌∷◌, Contains, Option, Some, None, Ok, IfSome}
+use Rattle.std.specs.Prelude.{◌≡◌, ℕ, ◌<◌, List, [], ◌∷◌, Contains, Option, Some, None, IfSome}
 use Rattle.flow_types.specs.declared.key.FlowKey.{FlowKey}
 use Rattle.flow_types.specs.declared.record.Flow.{Flow}
 use Rattle.flow_types.specs.declared.record.Record.{Record}
-use Rattle.csv_rows.specs.Rows.{rows}
-use Rattle.flow_reader.specs.Opening.{opening_of}
-use Rattle.flow_reader.specs.declared.opening.Opening.{Opening}
-use Rattle.cluster_replay.specs.Outcome.{opened}
-use Rattle.cluster_replay.specs.Replies.{replayed}
+use Rattle.group_search.specs.Home.{home, opening}
+use Rattle.cluster_replay.specs.State.{State}
 use Rattle.cluster_replay.specs.declared.event.Event.{Event}
 use Rattle.cluster_replay.specs.declared.event.Event.TheVariants.{Packet}
 use Rattle.cluster_replay.specs.declared.reply.Reply.{Reply}
@@ -37,18 +34,13 @@ Path nodes At key (Unknown node seen fib) =
     (there here : List Flow) × At seen there × At fib here × Route nodes there key (Some node) × Answer here node key None
 Path nodes At key (Nowhere seen) = (there : List Flow) × At seen there × Route nodes there key None
 
--- each packet of a script has a path as its reply
-abbrev pub ArePaths : ℕ → (ℕ → List Flow → Type 0) → List Event → List Reply → Type 0
+-- each packet of a script has a path as its reply, where `At key` tells the flows of the key's group at each version
+abbrev pub ArePaths : ℕ → (FlowKey → ℕ → List Flow → Type 0) → List Event → List Reply → Type 0
 ArePaths nodes At [] [] = Unit {0}
-ArePaths nodes At (Packet ingress key ∷ script) (reply ∷ replies) = Path nodes At key reply × ArePaths nodes At script replies
+ArePaths nodes At (Packet ingress key ∷ script) (reply ∷ replies) = Path nodes (At key) key reply × ArePaths nodes At script replies
 ArePaths nodes At _ _ = ⊥
 
--- without updates there is one version, 0: the flows of the opening
-pub record AtOpening (flows : List Flow) (version : ℕ) (known : List Flow) : Type 0 where
+-- without updates a group has one version, 0: those flows of the opening that belong to it
+pub record AtOpening (state : State) (key : FlowKey) (version : ℕ) (known : List Flow) : Type 0 where
   pub first : version ≡ 0
-  pub same : known ≡ flows
-
--- each packet of any script over the bytes' opening has a path as its reply
-abbrev pub GoesByPaths : List ℕ → Type 0
-GoesByPaths bytes = (opening : Opening) (script : List Event) → opening_of (rows bytes) ≡ Ok opening
-    → ArePaths opening.shape.nodes (AtOpening opening.flows) script (replayed (opened opening) script)
+  pub same : known ≡ opening state.size.blocks state.flows (home state.size.blocks state.flows key)

@@ -1,5 +1,5 @@
 -- What each event of a script is answered by a cluster that no update has changed.
-use Rattle.std.specs.Prelude.{ℕ, ◌==◌, ◌&&◌, Bool, List, [], ◌∷◌, map, Option, Some, None, if◌then◌else◌}
+use Rattle.std.specs.Prelude.{ℕ, ◌==◌, ◌&&◌, Bool, List, find, map, Option, Some, None, option_map}
 use Rattle.flow_types.specs.declared.key.FlowKey.{FlowKey}
 use Rattle.flow_types.specs.declared.record.Flow.{Flow}
 use Rattle.flow_types.specs.declared.record.Record.{Record}
@@ -15,14 +15,9 @@ use Rattle.cluster_replay.specs.declared.reply.Reply.TheVariants.{Found, Unknown
 abbrev pub is_handled : (node : ℕ) → FlowKey → Flow → Bool
 is_handled node key flow = (flow.node == node) && same_key flow.key key
 
--- the record at a key, once the records of more of a node's flows are put at their keys
-abbrev pub record_after : (node : ℕ) → Option Record → List Flow → FlowKey → Option Record
-record_after node there [] key = there
-record_after node there (flow ∷ flows) key = record_after node (if is_handled node key flow then Some flow.info else there) flows key
-
 -- the record that a node has of a key: that of the flow with this key which it handles
-unfoldable pub record_at : (node : ℕ) → List Flow → FlowKey → Option Record
-record_at node flows key = record_after node None flows key
+unfoldable pub fib_record : (node : ℕ) → List Flow → FlowKey → Option Record
+fib_record node flows key = option_map (λ (flow : Flow). flow.info) (find (is_handled node key) flows)
 
 -- a node's answer, by its record of the key, at these versions of the key's group
 abbrev pub answer : (node seen fib : ℕ) → Option Record → Reply
@@ -31,7 +26,7 @@ answer node seen fib None = Unknown node seen fib
 
 -- the reply to a packet that is sent to this node, or nowhere
 abbrev pub reply_from : List Flow → FlowKey → (sent : Option ℕ) → Reply
-reply_from flows key (Some node) = answer node 0 0 (record_at node flows key)
+reply_from flows key (Some node) = answer node 0 0 (fib_record node flows key)
 reply_from flows key None = Nowhere 0
 
 -- an event's reply: its ingress sends a packet where the flows do

@@ -1,11 +1,8 @@
 -- The rows after `begin`, as the events of a script.
-use Rattle.std.specs.Prelude.{◌≡◌, ℕ, ◌+◌, ◌<◌, Bool, true, false, if◌then◌else◌, List, [], ◌∷◌, ◌++◌, codes, Option, Some, None, is_none, option_to_list, Result, Ok, Err, Vec}
-use Rattle.std.specs.Global.{Global}
+use Rattle.std.specs.Prelude.{ℕ, ◌+◌, ◌<◌, Bool, true, false, if◌then◌else◌, List, [], ◌∷◌, ◌++◌, codes, Option, Some, None, is_none, option_to_list, Result, Ok, Err}
 use Rattle.csv_rows.specs.Rows.{Row, field_at}
 use Rattle.flow_reader.specs.Fields.{and_then, is_kind, node_field, key_at}
 use Rattle.flow_reader.specs.Opening.{with_fields, bad_row}
-use Rattle.flow_reader.specs.declared.opening.RowRefused.{RowRefused}
-use Rattle.flow_reader.specs.declared.opening.RowRefused.TheVariants.{Bad, OutOfMemory}
 use Rattle.flow_types.specs.declared.why.Why.{Why}
 use Rattle.flow_types.specs.declared.why.Why.TheVariants as why
 use Rattle.flow_types.specs.declared.why.BadRow.{BadRow}
@@ -45,12 +42,6 @@ script_from nodes (row ∷ rest) ended events number = script_next (script_from 
 -- the script that the rows after `begin` say, or the first of them that is bad; `begin` stands in the row of this number
 unfoldable pub script_of : ℕ → ℕ → List Row → Result (List Event) BadRow
 script_of nodes begin_row rest = script_from nodes rest false [] (begin_row + 1)
-
--- the answer is this script or this bad row, or want of memory
-abbrev pub Answers : Result (List Event) BadRow → Result (Vec Event Global) RowRefused → Type 0
-Answers said (Ok events) = said ≡ Ok events.items
-Answers said (Err (Bad bad)) = said ≡ Err bad
-Answers said (Err OutOfMemory) = Unit {0}
 
 -- the event may stand in the script of a cluster of so many nodes: its ingress is one of them
 abbrev pub IsFormed : (nodes : ℕ) → Event → Type 0

@@ -1,7 +1,7 @@
 ghost use Rattle.std.specs.Prelude.{◌≡◌, ◌<◌, ◌≤◌, List, None, IfErr, IfOk, OnOk};
 ghost use Rattle.group_search.specs.Build.{IsBuild, past_limit};
-ghost use Rattle.group_search.specs.Records.{AreDistinct, AreHandled};
-ghost use Rattle.flow_types.specs.Size.{IsShape};
+ghost use Rattle.group_search.specs.Records.{AreHandled};
+ghost use Rattle.flow_types.specs.Map.{AreDistinct};
 ghost use Rattle.replica_shard.specs.Routed.{ReachesHandlers, routed};
 ghost use Rattle.cluster_replay.specs.Cluster.{AreNodes};
 ghost use Rattle.cluster_replay.specs.Limits.{IsCausedBy};
@@ -13,10 +13,12 @@ use crate::fault::InputFault;
 use crate::node::Node;
 use crate::reply::Reply;
 use flow_reader::Opening;
+use flow_types::laws::numbers_of_a_shape;
 use flow_types::{Flow, FlowKey, Shape};
 use group_search::BlockImage;
 use hash_family::place;
 use out_of_memory::OutOfMemory;
+use replica_shard::Route;
 use setsep_build::build;
 use std::alloc::Global;
 use std::marker::Model;
@@ -84,7 +86,7 @@ fn open_with(
     ensures state { IfOk result (λ cluster. cluster ≡ record { size = shape; flows = flows.now }) }
     ensures reached { OnOk result (ReachesHandlers shape flows.now) }
 {
-    know_numbers(shape);
+    numbers_of_a_shape(shape);
     let nodes = nodes(alloc, shape, flows, images)?;
     let flows = Vec::from_slice(alloc, flows)?;
     Ok(Cluster {
@@ -94,13 +96,6 @@ fn open_with(
     })
 }
 
-/// What a shape's numbers are is known of it. The call does nothing.
-fn know_numbers(shape: Shape)
-    ensures { IsShape shape.nodes shape.blocks }
-{
-    let _ = (shape.nodes(), shape.blocks());
-}
-
 /// The nodes of a cluster of these flows and of the images that they give.
 fn nodes(
     alloc: Global,
@@ -108,7 +103,8 @@ fn nodes(
     flows: &[Flow],
     images: &[BlockImage],
 ) -> Result<Vec<Node>, OutOfMemory>
-    requires { IsBuild shape flows.now images.now }
+    requires distinct { AreDistinct flows.now }
+    requires built { IsBuild shape flows.now images.now }
     ensures { IfOk result (λ nodes. AreNodes shape flows.now nodes.items) }
 {
     let mut nodes = Vec::new(alloc);
@@ -139,24 +135,32 @@ impl Cluster {
         self.send(ingress, key)
     }
 
-    /// The reply to a packet with this key: its ingress sends it by its table of the owner of the key's block, and the node
-    /// that it is sent to answers by its own records.
+    /// The reply to a packet with this key: the node that its ingress sends it to answers by its own records.
     fn send(&self, ingress: u8, key: FlowKey) -> Reply
         requires { ingress < self.now.size.nodes }
         ensures { result ≡ reply_from self.now.flows key (routed self.now.size self.now.flows key) }
     {
-        let owner = self.shape.owner(place(self.shape, key).block);
-        let at = &self.nodes[usize::from(ingress)];
-        let shard = &at.shards[usize::from(owner)];
-        let route = shard.route(key);
+        let route = self.route(ingress, key);
         match route.node {
             Some(node) => {
                 let to = &self.nodes[usize::from(node)];
-                to.records.reply(node, route.version, &key)
+                to.fib.reply(node, route.version, &key)
             }
             None => Reply::Nowhere {
                 seen: route.version,
             },
         }
+    }
+
+    /// Where a node sends a key, by its table of the owner of the key's block.
+    fn route(&self, ingress: u8, key: FlowKey) -> Route
+        requires { ingress < self.now.size.nodes }
+        ensures { result ≡ record { version = 0; node = routed self.now.size self.now.flows key } }
+    {
+        let home = place(self.shape, key);
+        let owner = self.shape.owner(home.block);
+        let at = &self.nodes[usize::from(ingress)];
+        let shard = &at.shards[usize::from(owner)];
+        shard.route_at(home, key)
     }
 }

@@ -10,11 +10,11 @@
 
 mod answering;
 mod cluster;
-mod directory;
-mod dotted;
 mod event;
 mod fault;
+mod fib;
 mod law;
+mod lines;
 mod node;
 mod replaying;
 mod reply;

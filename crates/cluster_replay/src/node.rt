@@ -1,9 +1,10 @@
 ghost use Rattle.std.specs.Prelude.{◌≡◌, List, IfOk, length};
+ghost use Rattle.flow_types.specs.Map.{AreDistinct};
 ghost use Rattle.flow_types.specs.declared.record.Flow.{Flow};
 ghost use Rattle.group_search.specs.Build.{IsBuild};
 ghost use Rattle.cluster_replay.specs.Tables.{AreShards};
 
-use crate::directory::Directory;
+use crate::fib::Fib;
 use flow_types::{Flow, Shape};
 use group_search::BlockImage;
 use out_of_memory::OutOfMemory;
@@ -17,7 +18,7 @@ pub struct Node {
     /// has none.
     pub shards: Vec<PlainShard>,
     /// The records of the flows that it handles.
-    pub records: Directory,
+    pub fib: Fib,
 }
 
 impl Node {
@@ -31,12 +32,13 @@ impl Node {
         flows: &[Flow],
         images: &[BlockImage],
     ) -> Result<Node, OutOfMemory>
-        requires { IsBuild shape flows.now images.now }
+        requires distinct { AreDistinct flows.now }
+        requires built { IsBuild shape flows.now images.now }
         ensures { IfOk result (IsNode shape flows.now number) }
     {
         Ok(Node {
             shards: shards(alloc, shape, images)?,
-            records: Directory::of(alloc, number, flows)?,
+            fib: Fib::of(alloc, number, flows)?,
         })
     }
 }

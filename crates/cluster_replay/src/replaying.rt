@@ -1,20 +1,25 @@
-ghost use Rattle.std.specs.Prelude.{◌≤◌, OnOk, length};
-ghost use Rattle.cluster_replay.specs.Outcome.{Gives, outcome};
-ghost use Rattle.cluster_replay.specs.Path.{GoesByPaths};
+ghost use Rattle.std.specs.Prelude.{◌≤◌, IfOk, length};
+ghost use Rattle.out_of_memory.specs.Answer.{Answers};
+ghost use Rattle.flow_types.specs.Input.{most_octets};
+ghost use Rattle.cluster_replay.specs.Limits.{named_fault};
+ghost use Rattle.cluster_replay.specs.Outcome.{outcome};
+ghost use Rattle.cluster_replay.specs.Headline.{IsRunOf};
+ghost use Rattle.cluster_replay.specs.Headline.Mode.{Replay};
 
 use crate::answering::replies;
 use crate::cluster::open;
 use crate::fault::InputFault;
 use crate::reporting::report;
 use crate::script::read_script;
-use flow_reader::{MOST_OCTETS, read_opening};
+use csv_rows::RowReader;
+use flow_reader::read_opening_from;
 use std::alloc::Global;
 use std::thread::Threads;
 
 /// The printed run of an input: the rows up to `begin` are read, then the script, the table is built, each event gets its
 /// reply, and the report prints them. The fault is the first row that breaks a rule, or else the first block that is past a
 /// limit.
-#[tactic(auto, using(crate::proofs::Flows::length_replayed, crate::proofs::PathFacts::goes_by_paths), unfolding(crate::specs::Outcome::outcome))]
+#[tactic(auto, using(crate::proofs::Replied::length_replayed, crate::proofs::RunFacts::replay_runs), unfolding(crate::specs::Outcome::outcome))]
 pub fn replay<R: Threads>(
     rt: &R,
     alloc: Global,
@@ -23,12 +28,13 @@ pub fn replay<R: Threads>(
 ) -> Result<Vec<u8>, InputFault>
     requires some_worker { 1 ≤ workers }
     requires few_workers { workers ≤ 64 }
-    requires limit { length bytes.now ≤ MOST_OCTETS }
-    ensures gives { Gives result (outcome bytes.now) }
-    ensures paths { OnOk result (GoesByPaths bytes.now) }
+    requires limit { length bytes.now ≤ most_octets }
+    ensures answers { Answers (λ text. text.items) named_fault (outcome bytes.now) result }
+    ensures run { IfOk result (λ text. IsRunOf Replay 1 bytes.now text.items) }
 {
-    let opening = read_opening(alloc, bytes)?;
-    let script = read_script(alloc, bytes, opening.begin_row, opening.shape)?;
+    let mut reader = RowReader::new(alloc, bytes);
+    let opening = read_opening_from(alloc, &mut reader)?;
+    let script = read_script(alloc, reader, opening.begin_row, opening.shape.nodes())?;
     let mut cluster = match open(rt, alloc, &opening, workers) {
         Ok(cluster) => cluster,
         Err(fault) => return Err(fault),

@@ -1,50 +1,21 @@
-ghost use Rattle.std.specs.Prelude.{◌≡◌, ◌+◌, ◌<◌, ◌≤◌, ◌^◌, All, length, drop, ◌++◌, is_none, option_to_list, IfOk, IfSome, OnOk};
-ghost use Rattle.csv_rows.specs.Rows.{fields_of, rows};
+ghost use Rattle.std.specs.Prelude.{◌≡◌, ◌+◌, ◌<◌, ◌^◌, All, length, ◌++◌, is_none, option_to_list, IfOk, IfSome, OnOk};
+ghost use Rattle.csv_rows.specs.Rows.{fields_of};
 ghost use Rattle.csv_rows.specs.Reading.{IsReading, rows_left};
-ghost use Rattle.flow_reader.specs.Opening.{bad_row};
-ghost use Rattle.cluster_replay.specs.Script.{Answers, IsFormed, packet_fields, row_after, script_of, script_row};
+ghost use Rattle.out_of_memory.specs.Answer.{Answers};
+ghost use Rattle.flow_reader.specs.Opening.{bad_row, named_row};
+ghost use Rattle.cluster_replay.specs.Script.{IsFormed, packet_fields, row_after, script_of, script_row};
 
 use crate::event::Event;
 use csv_rows::{ByteRecord, RowReader, field};
-use flow_reader::{MOST_OCTETS, RowRefused, is_kind, key_at, node_field};
-use flow_types::{BadRow, Shape, Why};
+use flow_reader::{RowRefused, is_kind, key_at, node_field};
+use flow_types::{BadRow, Why};
 use out_of_memory::OutOfMemory;
 use std::alloc::Global;
 
-/// Reads the rows after `begin`, which stands in the row of this number, to the end of the input.
-pub fn read_script(
-    alloc: Global,
-    bytes: &[u8],
-    begin_row: u32,
-    shape: Shape,
-) -> Result<Vec<Event>, RowRefused>
-    requires limit { length bytes.now ≤ MOST_OCTETS }
-    requires begun { begin_row ≤ length (rows bytes.now) }
-    ensures says { Answers (script_of shape.nodes begin_row (drop begin_row (rows bytes.now))) result }
-    ensures formed { IfOk result (λ events. All (IsFormed shape.nodes) events.items) }
-{
-    let mut reader = RowReader::new(alloc, bytes);
-    skip_rows(alloc, &mut reader, begin_row)?;
-    read_rows(alloc, reader, begin_row, shape.nodes())
-}
-
-/// Takes so many rows from the reader.
-#[tactic(auto, using(crate::proofs::Scripts::row_skipped))]
-fn skip_rows(alloc: Global, reader: &mut RowReader<'_>, count: u32) -> Result<(), OutOfMemory>
-    requires reading { IsReading reader.old }
-    requires enough { count ≤ length (rows_left reader.old) }
-    ensures reading { OnOk result (IsReading reader.new) }
-    ensures skipped { OnOk result (rows_left reader.new ≡ drop count (rows_left reader.old)) }
-{
-    let mut row = ByteRecord::new(alloc);
-    'skipped: for _taken in 0..count {
-        reader.next_row(&mut row)?;
-    }
-    Ok(())
-}
-
+/// Reads the rows that a reader has left, which are those after `begin`, to the end of the input. `begin` stands in the row
+/// of this number.
 #[tactic(auto, using(crate::proofs::Scripts::script_begins))]
-fn read_rows(
+pub fn read_script(
     alloc: Global,
     mut reader: RowReader<'_>,
     begin_row: u32,
@@ -52,7 +23,7 @@ fn read_rows(
 ) -> Result<Vec<Event>, RowRefused>
     requires reading { IsReading reader }
     requires few { begin_row + length (rows_left reader) < 2 ^ 31 }
-    ensures says { Answers (script_of nodes begin_row (rows_left reader.entry)) result }
+    ensures says { Answers (λ events. events.items) named_row (script_of nodes begin_row (rows_left reader.entry)) result }
     ensures formed { IfOk result (λ events. All (IsFormed nodes) events.items) }
 {
     let mut events = Vec::new(alloc);

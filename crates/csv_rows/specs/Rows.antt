@@ -7,7 +7,7 @@ use Rattle.csv.specs.Reading.{default_config, records, strip_bom}
 abbrev pub Field : Type 0
 Field = List ℕ
 
--- a row is its fields
+-- an input row is its fields
 abbrev pub Row : Type 0
 Row = List Field
 

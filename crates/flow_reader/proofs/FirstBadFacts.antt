@@ -4,21 +4,23 @@ use Rattle.std.specs.Prelude.{AllPairs, if◌then◌else◌}
 use Rattle.std.proofs.Math.Seq.{get_or-append_seam}
 use Rattle.std.proofs.lemmas.List.{append-nil, append_assoc, get_or_append_left, length-append, map-append}
 use Rattle.std.proofs.lemmas.List.Quantifiers.{all_pairs_push}
+use Rattle.flow_types.specs.Key.{number}
 use Rattle.flow_types.specs.Size.{Size}
 use Rattle.flow_types.specs.declared.record.Flow.{Flow}
 use Rattle.flow_types.specs.declared.why.BadRow.{BadRow}
 use Rattle.flow_types.specs.declared.why.Why.{Why}
 use Rattle.flow_types.specs.declared.why.Why.TheVariants as why
 use Rattle.csv_rows.specs.Rows.{Row}
-use Rattle.flow_reader.specs.FirstBad.{Begins, Breaks, BreaksAfter, IsFirstBad, IsOpening, NeverBegins, OpeningLaw}
+use Rattle.flow_reader.specs.FirstBad.{Begins, Breaks, BreaksAfterFlows, IsFirstBad, IsOpening, NeverBegins, OpeningLaw}
 use Rattle.flow_reader.specs.Fields.{and_then}
-use Rattle.flow_reader.specs.Opening.{adds, bad_row, has_key, later_row, opening_after, opening_from, opening_next, opening_of, shape_of}
+use Rattle.flow_reader.specs.Opening.{adds, bad_row, has_key, later_row, opening_after, ends_or, opening_from, opening_of, shape_of, with_said}
 use Rattle.flow_reader.specs.declared.opening.Opening.{Opening}
+use Rattle.flow_reader.proofs.FlowFacts.{each-fits, row-fits, same-numbers}
 use Rattle.flow_reader.proofs.KeyFacts.{has_key-false, has_key-none, has_key-there, has_key-true}
 
 -- two flows with different keys
 abbrev Differ : Flow → Flow → Type 0
-Differ a b = a.key ≢ b.key
+Differ a b = number a.key ≢ number b.key
 
 -- what a flow row says
 abbrev says_flow : Flow → Result (Option Flow) Why
@@ -44,7 +46,10 @@ begins-flow sound shape flows row flow b says new = record {
   split = ap (λ rows. rows ++ row ∷ []) b.split;
   says_shape = b.says_shape;
   say_flows = map-append (later_row shape.nodes) b.others (row ∷ []) ∙ rw (b.say_flows, says) (sym (map-append says_flow flows (flow ∷ [])));
-  distinct = all_pairs_push Differ flows flow b.distinct (has_key-false flow.key flows new);
+  distinct = all_pairs_push Differ flows flow b.distinct (λ k d low same.
+      let there = each-fits shape.nodes b.others flows b.say_flows k d low in
+      has_key-false flow.key flows new k d low
+      (same-numbers (get_or flows k d).key flow.key there.key (row-fits shape.nodes row flow says).key same));
 }
 
 never-begins : (sound : List Row) (shape : Size) (flows : List Flow) → Begins sound shape flows → NeverBegins sound
@@ -52,7 +57,7 @@ never-begins [] shape flows b = tt
 never-begins (first ∷ others) shape flows b = (shape, flows, b)
 
 breaks-after : (sound : List Row) (shape : Size) (flows : List Flow) (row : Row) (reason : Why) → Begins sound shape flows
-    → BreaksAfter shape flows row reason → Breaks sound row reason
+    → BreaksAfterFlows shape flows row reason → Breaks sound row reason
 breaks-after [] shape flows row reason b breaks = cc b.split
 breaks-after (first ∷ others) shape flows row reason b breaks = (shape, flows, b, breaks)
 
@@ -60,6 +65,10 @@ breaks-after (first ∷ others) shape flows row reason b breaks = (shape, flows,
 abbrev Said : List Row → Result Opening BadRow → Type 0
 Said all (Ok opening) = IsOpening all opening
 Said all (Err bad) = IsFirstBad all bad
+
+-- what the rows say, where the first of them says this
+abbrev goes_on : Size → List Row → List Flow → ℕ → Result (Option Flow) Why → Result Opening BadRow
+goes_on shape rest flows number said = ends_or shape flows number said (opening_from shape rest (with_said flows said) (number + 1))
 
 says-from : (shape : Size) (rest sound : List Row) (flows : List Flow) (number : ℕ) → Begins sound shape flows → number ≡ length sound + 1
     → Said (sound ++ rest) (opening_from shape rest flows number)
@@ -70,7 +79,7 @@ says-from shape (row ∷ rest) sound flows number b n = by (later_row shape.node
   where
     added : (flow : Flow) (test : Bool) → has_key flow.key flows ≡ test → later_row shape.nodes row ≡ Ok (Some flow)
         → ((more : List Row) (fs : List Flow) (k : ℕ) → Begins more shape fs → k ≡ length more + 1 → Said (more ++ rest) (opening_from shape rest fs k))
-        → Said (sound ++ row ∷ rest) (opening_next (opening_from shape rest) shape flows number (if test then Err why.Duplicate else Ok (Some flow)))
+        → Said (sound ++ row ∷ rest) (goes_on shape rest flows number (if test then Err why.Duplicate else Ok (Some flow)))
     added flow true e says ih =
         inl (record {
           sound = sound;
@@ -87,7 +96,7 @@ says-from shape (row ∷ rest) sound flows number b n = by (later_row shape.node
 
     by : (o : Result (Option Flow) Why) → later_row shape.nodes row ≡ o
         → ((more : List Row) (fs : List Flow) (k : ℕ) → Begins more shape fs → k ≡ length more + 1 → Said (more ++ rest) (opening_from shape rest fs k))
-        → Said (sound ++ row ∷ rest) (opening_next (opening_from shape rest) shape flows number (and_then o (adds flows)))
+        → Said (sound ++ row ∷ rest) (goes_on shape rest flows number (and_then o (adds flows)))
     by (Err reason) says ih =
         inl (record { sound = sound; row = row; after = rest; split = refl; breaks = breaks-after sound shape flows row reason b (inl says); number = n })
     by (Ok None) says ih = record { sound = sound; begin = row; after = rest; split = refl; begins = b; says_begin = says; number = n }
@@ -112,7 +121,9 @@ differs-before : (done : List Flow) (flow : Flow) (flows : List Flow) → AllPai
     → (k : ℕ) (d : Flow) → k < length done → (get_or done k d).key ≢ flow.key
 differs-before done flow flows apart k d h =
     let size = length-append done (flow ∷ flows) in
-    rw (get_or_append_left done (flow ∷ flows) d k h, get_or-append_seam done flow flows d) at (apart k (length done) d h (omega arith))
+    let other : number (get_or done k d).key ≢ number flow.key =
+    rw (get_or_append_left done (flow ∷ flows) d k h, get_or-append_seam done flow flows d) at (apart k (length done) d h (omega arith)) in
+    λ same. other (ap number same)
 
 -- rows that say flows are read to their end
 read-flows : (shape : Size) (rest others : List Row) (flows done : List Flow) (number : ℕ) → map (later_row shape.nodes) others ≡ map says_flow flows
@@ -144,7 +155,7 @@ opening_of-made all opening o =
     (read-sound o.sound opening.shape opening.flows (o.begin ∷ o.after) o.begins
     ∙ rw o.says_begin (ap (λ n. Ok (record { shape = opening.shape; flows = opening.flows; begin_row = n })) (sym o.number)))
 
-after-bad : (shape : Size) (flows : List Flow) (row : Row) (rest : List Row) (number : ℕ) (reason : Why) → BreaksAfter shape flows row reason
+after-bad : (shape : Size) (flows : List Flow) (row : Row) (rest : List Row) (number : ℕ) (reason : Why) → BreaksAfterFlows shape flows row reason
     → opening_from shape (row ∷ rest) flows number ≡ Err (bad_row number reason)
 unfolding opening_from
 after-bad shape flows row rest number reason (inl says) = rw says refl

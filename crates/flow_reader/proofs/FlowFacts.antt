@@ -70,9 +70,9 @@ key-fields place row key e =
     }
 
 -- a key whose fields fit, at one of the nodes
-record Fits (nodes : ℕ) (flow : Flow) : Type 0 where
-  key : HasFields flow.key
-  node : flow.node < nodes
+pub record Fits (nodes : ℕ) (flow : Flow) : Type 0 where
+  pub key : HasFields flow.key
+  pub node : flow.node < nodes
 
 flow-parts : (k : Result FlowKey Why) (n t b : Result ℕ Why) (flow : Flow)
     → and_then k (λ key. and_then n (λ node. and_then t (λ teid. and_then b (λ base.
@@ -105,13 +105,13 @@ row-says false b true true f flow e = cc e
 row-says false b true false f flow e = cc e
 row-says false b false d f flow e = cc e
 
-row-fits : (nodes : ℕ) (row : Row) (flow : Flow) → later_row nodes row ≡ Ok (Some flow) → Fits nodes flow
+pub row-fits : (nodes : ℕ) (row : Row) (flow : Flow) → later_row nodes row ≡ Ok (Some flow) → Fits nodes flow
 unfolding later_row
 row-fits nodes row flow e = flow-fits nodes row flow
     (row-says (is_kind (codes "flow") row) (length row == 9) (is_kind (codes "begin") row) (length row == 1) (flow_of nodes row) flow e)
 
 -- so it is with each flow of rows
-each-fits : (nodes : ℕ) (rows : List Row) (flows : List Flow) → map (later_row nodes) rows ≡ map (λ flow. Ok (Some flow)) flows
+pub each-fits : (nodes : ℕ) (rows : List Row) (flows : List Flow) → map (later_row nodes) rows ≡ map (λ flow. Ok (Some flow)) flows
     → (k : ℕ) (d : Flow) → k < length flows → Fits nodes (get_or flows k d)
 each-fits nodes rows [] says k d h = absurd (omega arith)
 each-fits nodes [] (flow ∷ flows) says k d h = cc says
@@ -119,7 +119,7 @@ each-fits nodes (row ∷ rows) (flow ∷ flows) says zero d h = row-fits nodes r
 each-fits nodes (row ∷ rows) (flow ∷ flows) says (suc k) d h = each-fits nodes rows flows (cc) k d (omega arith)
 
 -- keys with one number are the same
-same-numbers : (a b : FlowKey) → HasFields a → HasFields b → number a ≡ number b → a ≡ b
+pub same-numbers : (a b : FlowKey) → HasFields a → HasFields b → number a ≡ number b → a ≡ b
 unfolding octets
 same-numbers a b p q e = same_octets a b p q (rw e refl)
 
@@ -132,9 +132,7 @@ opening-fits all opening o =
     let total : length all ≡ length o.sound + (length o.after + 1) = rw o.split (rw length-append (omega arith)) in
     let number = o.number in
     record {
-      distinct = λ i j d below within same.
-          o.begins.distinct i j d below within
-          (same-numbers (get_or opening.flows i d).key (get_or opening.flows j d).key (fits i d (omega arith)).key (fits j d within).key same);
+      distinct = o.begins.distinct;
       handled = λ k d h. (fits k d h).node;
       begin_row = omega arith;
       within = omega arith;

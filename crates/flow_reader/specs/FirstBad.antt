@@ -1,5 +1,6 @@
 -- The rows up to `begin` one by one: when they make an opening, and which of them is the first bad one.
-use Rattle.std.specs.Prelude.{◌≡◌, ◌≢◌, ◌⊎◌, ◌↔◌, ◌+◌, List, [], ◌∷◌, ◌++◌, length, map, Some, None, Ok, Err, AllPairs, Contains}
+use Rattle.std.specs.Prelude.{◌≡◌, ◌⊎◌, ◌↔◌, ◌+◌, List, [], ◌∷◌, ◌++◌, length, map, Some, None, Ok, Err, Contains}
+use Rattle.flow_types.specs.Map.{AreDistinct}
 use Rattle.flow_types.specs.Size.{Size}
 use Rattle.flow_types.specs.declared.record.Flow.{Flow}
 use Rattle.flow_types.specs.declared.why.BadRow.{BadRow}
@@ -16,7 +17,7 @@ pub record Begins (sound : List Row) (shape : Size) (flows : List Flow) : Type 0
   pub split : sound ≡ first ∷ others
   pub says_shape : shape_of first ≡ Ok shape
   pub say_flows : map (later_row shape.nodes) others ≡ map (λ flow. Ok (Some flow)) flows
-  pub distinct : AllPairs (λ a b. a.key ≢ b.key) flows
+  pub distinct : AreDistinct flows
 
 -- the rows go so up to a `begin` row
 pub record IsOpening (all : List Row) (opening : Opening) : Type 0 where
@@ -29,15 +30,15 @@ pub record IsOpening (all : List Row) (opening : Opening) : Type 0 where
   pub number : opening.begin_row ≡ length sound + 1
 
 -- a later row is bad by itself, or writes a key that an earlier flow has
-abbrev pub BreaksAfter : Size → List Flow → Row → Why → Type 0
-BreaksAfter shape flows row reason =
+abbrev pub BreaksAfterFlows : Size → List Flow → Row → Why → Type 0
+BreaksAfterFlows shape flows row reason =
     (later_row shape.nodes row ≡ Err reason)
     ⊎ ((reason ≡ why.Duplicate) × (flow : Flow) × (later_row shape.nodes row ≡ Ok (Some flow)) × Contains (keys_of flows) flow.key)
 
 -- a row breaks a rule for this reason, and the rows before it break none
 abbrev pub Breaks : List Row → Row → Why → Type 0
 Breaks [] row reason = shape_of row ≡ Err reason
-Breaks (first ∷ others) row reason = (shape : Size) × (flows : List Flow) × Begins (first ∷ others) shape flows × BreaksAfter shape flows row reason
+Breaks (first ∷ others) row reason = (shape : Size) × (flows : List Flow) × Begins (first ∷ others) shape flows × BreaksAfterFlows shape flows row reason
 
 -- so the bad row stands at this place
 pub record IsBadAt (all : List Row) (bad : BadRow) : Type 0 where

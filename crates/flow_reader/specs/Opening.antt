@@ -1,10 +1,9 @@
 -- The rows up to `begin`: the shape of a cluster, and its flows.
-use Rattle.std.specs.Prelude.{◌≡◌, ℕ, ◌+◌, ◌==◌, ◌&&◌, nat_le, Bool, if◌then◌else◌, List, [], ◌∷◌, ◌++◌, length, map, Option, Some, None, Result, Ok, Err, codes}
+use Rattle.std.specs.Prelude.{ℕ, ◌+◌, ◌==◌, ◌&&◌, nat_le, Bool, if◌then◌else◌, List, [], ◌∷◌, ◌++◌, length, map, Option, Some, None, Result, Ok, Err, codes}
 use Rattle.std.specs.List.{list_any}
-use Rattle.flow_types.specs.Size.{Size}
+use Rattle.flow_types.specs.Size.{Size, fewest_blocks, fewest_nodes, most_blocks, most_nodes}
 use Rattle.flow_types.specs.declared.key.FlowKey.{FlowKey}
 use Rattle.flow_types.specs.declared.record.Flow.{Flow}
-use Rattle.flow_types.specs.declared.shape.TheConstants.{FEWEST_NODES, MOST_NODES, FEWEST_BLOCKS, MOST_BLOCKS}
 use Rattle.flow_types.specs.declared.why.BadRow.{BadRow}
 use Rattle.flow_types.specs.declared.why.Why.{Why}
 use Rattle.flow_types.specs.declared.why.Why.TheVariants as why
@@ -21,7 +20,7 @@ with_fields count row reading = if length row == count then reading else Err why
 -- the shape of so many nodes and blocks
 abbrev pub shape_with : ℕ → ℕ → Result Size Why
 shape_with nodes blocks =
-    if nat_le FEWEST_NODES nodes && nat_le nodes MOST_NODES && nat_le FEWEST_BLOCKS blocks && nat_le blocks MOST_BLOCKS
+    if nat_le fewest_nodes nodes && nat_le nodes most_nodes && nat_le fewest_blocks blocks && nat_le blocks most_blocks
     then Ok (record { nodes = nodes; blocks = blocks })
     else Err why.Number
 
@@ -67,24 +66,32 @@ adds flows None = Ok None
 adds flows (Some flow) = if has_key flow.key flows then Err why.Duplicate else Ok (Some flow)
 
 -- what a later row says after these flows
-abbrev pub row_after : ℕ → List Flow → Row → Result (Option Flow) Why
-row_after nodes flows row = and_then (later_row nodes row) (adds flows)
+abbrev pub row_after_flows : ℕ → List Flow → Row → Result (Option Flow) Why
+row_after_flows nodes flows row = and_then (later_row nodes row) (adds flows)
 
 abbrev pub bad_row : ℕ → Why → BadRow
 bad_row row reason = record { row = row; why = reason }
 
--- what the rows say from a row on: `more` is what those after it say
-abbrev pub opening_next : (List Flow → ℕ → Result Opening BadRow) → Size → List Flow → ℕ → Result (Option Flow) Why → Result Opening BadRow
-opening_next more shape flows number (Err reason) = Err (bad_row number reason)
-opening_next more shape flows number (Ok None) = Ok (record { shape = shape; flows = flows; begin_row = number })
-opening_next more shape flows number (Ok (Some flow)) = more (flows ++ flow ∷ []) (number + 1)
+-- the flows with the one that a row says, where it says one
+abbrev pub with_said : List Flow → Result (Option Flow) Why → List Flow
+with_said flows (Ok (Some flow)) = flows ++ flow ∷ []
+with_said flows (Ok None) = flows
+with_said flows (Err reason) = flows
+
+-- a row that says a flow leaves the answer to the rows after it; `begin` ends the opening, and a bad row is the answer
+abbrev pub ends_or : Size → List Flow → (number : ℕ) → (said : Result (Option Flow) Why) → (later : Result Opening BadRow) → Result Opening BadRow
+ends_or shape flows number (Ok (Some flow)) later = later
+ends_or shape flows number (Ok None) later = Ok (record { shape = shape; flows = flows; begin_row = number })
+ends_or shape flows number (Err reason) later = Err (bad_row number reason)
 
 -- what the rows say from the row of this number on, after these flows
 unfoldable pub opening_from : Size → List Row → List Flow → ℕ → Result Opening BadRow
 opening_from shape [] flows number = Err (bad_row number why.NoBegin)
 opening_from shape (row ∷ rest) flows number =
-    opening_next (opening_from shape rest) shape flows number (row_after shape.nodes flows row)
+    let said = row_after_flows shape.nodes flows row in
+    ends_or shape flows number said (opening_from shape rest (with_said flows said) (number + 1))
 
+-- what the rows say, where the first says this of the shape and these come after it
 abbrev pub opening_after : List Row → Result Size Why → Result Opening BadRow
 opening_after rest (Ok shape) = opening_from shape rest [] 2
 opening_after rest (Err reason) = Err (bad_row 1 reason)
@@ -94,8 +101,7 @@ unfoldable pub opening_of : List Row → Result Opening BadRow
 opening_of [] = Err (bad_row 1 why.NoBegin)
 opening_of (row ∷ rest) = opening_after rest (shape_of row)
 
--- the answer is this opening or this bad row, or want of memory
-abbrev pub Answers : Result Opening BadRow → Result Opening RowRefused → Type 0
-Answers said (Ok opening) = said ≡ Ok opening
-Answers said (Err (refused.Bad bad)) = said ≡ Err bad
-Answers said (Err refused.OutOfMemory) = Unit {0}
+-- the bad row that a refusal names; none at want of memory
+abbrev pub named_row : RowRefused → Option BadRow
+named_row (refused.Bad bad) = Some bad
+named_row refused.OutOfMemory = None

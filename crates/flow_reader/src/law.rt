@@ -1,9 +1,16 @@
-ghost use Rattle.std.specs.Prelude.{List};
+ghost use Rattle.std.specs.Prelude.{◌≡◌, List};
+ghost use Rattle.flow_types.specs.Input.{most_octets};
 ghost use Rattle.csv_rows.specs.Rows.{Row};
 ghost use Rattle.flow_reader.specs.FirstBad.{OpeningLaw};
+ghost use Rattle.flow_reader.specs.declared.opening.TheConstants.{MOST_OCTETS};
 
 /// A law of what the rows up to `begin` say: they say an opening exactly where each row up to `begin` breaks no rule,
 /// and a bad row exactly where it breaks a rule and no row before it does. The call does nothing.
 pub fn first_bad_row_law()
     ensures { (all : List Row) → OpeningLaw all }
+{}
+
+/// The limit that the code goes by is that of the definitions. The call does nothing.
+pub fn the_limits_are()
+    ensures { MOST_OCTETS ≡ most_octets }
 {}

@@ -1,6 +1,7 @@
-use crate::{MOST_OCTETS, Opening, RowRefused, first_bad_row_law, read_opening};
+use crate::{MOST_OCTETS, Opening, RowRefused, first_bad_row_law, read_opening, the_limits_are};
 use flow_types::{BadRow, Flow, FlowKey, Record, Why};
 use std::alloc::Global;
+use std::fmt::Write;
 use std::test::Fail;
 
 // What a text of rows reads as.
@@ -207,6 +208,7 @@ fn reads_up_to_begin(rt: HostRuntime) -> Result<(), Fail> {
 #[test]
 fn reads_the_fields_of_a_flow(rt: HostRuntime) -> Result<(), Fail> {
     first_bad_row_law();
+    the_limits_are();
     let text = b"cluster,4,1\nflow,10.0.0.1,192.0.2.7,1000,443,6,2,77,192.168.0.9\nbegin\n";
     let wanted = Flow {
         key: FlowKey {
@@ -229,5 +231,39 @@ fn reads_the_fields_of_a_flow(rt: HostRuntime) -> Result<(), Fail> {
         }
         Err(bad) => assert!(rt; false, "refused: {bad:?}"),
     }
+    Ok(())
+}
+
+/// So many flow rows with keys of their own.
+fn flow_rows(alloc: Global, count: u32) -> Result<String, Fail> {
+    let mut text = String::new(alloc);
+    'rows: for source in 0..count {
+        let [a, b, c, d] = source.to_be_bytes();
+        writeln!(
+            text,
+            "flow,{a}.{b}.{c}.{d},192.0.2.7,1000,443,6,2,77,192.168.0.9"
+        )?;
+    }
+    Ok(text)
+}
+
+#[test]
+fn reads_more_flows_than_a_port_has_numbers(rt: HostRuntime) -> Result<(), Fail> {
+    let rows = flow_rows(rt.alloc(), 66_000)?;
+    let whole = format!(in rt.alloc(); "cluster,4,1\n{rows}begin\n")?;
+    match read(rt.alloc(), whole.as_bytes())? {
+        Ok(opening) => {
+            assert_eq!(rt; opening.flows.as_slice().len(), 66_000);
+            assert_eq!(rt; opening.begin_row, 66_002);
+        }
+        Err(bad) => assert!(rt; false, "refused: {bad:?}"),
+    }
+    let first = flow_rows(rt.alloc(), 1)?;
+    let again = format!(in rt.alloc(); "cluster,4,1\n{rows}{first}begin\n")?;
+    let bad = BadRow {
+        row: 66_002,
+        why: Why::Duplicate,
+    };
+    assert_eq!(rt; read(rt.alloc(), again.as_bytes())?.err(), Some(bad));
     Ok(())
 }

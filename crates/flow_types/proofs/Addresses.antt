@@ -1,15 +1,19 @@
 -- Which texts are addresses: what `address_text` writes, and no others.
 use Rattle.std.proofs.Common.{◌≡◌, ℕ, ◌+◌, ◌*◌, ◌/◌, ◌%◌, ◌^◌, ◌<◌, ◌≤◌, true, false, List, [], ◌∷◌, Option, Some, None, refl, sym, ap, ◌∙◌, arith}
 use Rattle.std.specs.Fmt.{decimal}
+use Rattle.std.specs.Int.{IsInRange}
 use Rattle.std.specs.List.{All, slice_split, join_with_byte}
 use Rattle.std.specs.Str.{all_ascii_digits}
+use Rattle.std.proofs.lemmas.Bool.Decides.{nat_tests}
 use Rattle.std.proofs.lemmas.List.Elements.{All-cons}
 use Rattle.std.proofs.lemmas.List.Splits.{slice_split_none, slice_split_at, join_with_byte-slice_split}
 use Rattle.std.proofs.lemmas.Str.Parse.{tells_all_ascii_digits}
 use Rattle.std.proofs.lemmas.Fmt.{digits_decimal}
 use Rattle.flow_types.proofs.Numerals.{own, read_is_decimal, decimal_is_read}
-use Rattle.flow_types.proofs.Parts.{no_dot_digit}
-use Rattle.flow_types.specs.Text.{is_dot, number_value, below, four_octets, address_of_octets, address_value, octet_texts, address_text}
+use Rattle.flow_types.specs.Text.{is_dot, number_value, with_octet, four_octets, address_of_octets, address_value, octet_texts, address_text}
+
+no_dot_digit : (c : ℕ) → IsInRange 48 57 c → is_dot c ≡ false
+no_dot_digit c h = grind (arith, nat_tests)
 
 -- four numbers of at most 255 make the address, and the parts write them
 record AreOctetsOf (address : ℕ) (parts : List (List ℕ)) : Type 0 where
@@ -32,7 +36,7 @@ record IsBelow (upper octet : Option ℕ) (n : ℕ) : Type 0 where
   octet_is : octet ≡ Some under
   made : above * 256 + under ≡ n
 
-parted : (upper octet : Option ℕ) (n : ℕ) → below upper octet ≡ Some n → IsBelow upper octet n
+parted : (upper octet : Option ℕ) (n : ℕ) → with_octet upper octet ≡ Some n → IsBelow upper octet n
 parted None octet n h = cc
 parted (Some above) None n h = cc
 parted (Some above) (Some under) n h = record { above = above; under = under; upper_is = refl; octet_is = refl; made = cc }
@@ -44,8 +48,8 @@ by_parts (a ∷ b ∷ []) address h = cc
 by_parts (a ∷ b ∷ c ∷ []) address h = cc
 by_parts (a ∷ b ∷ c ∷ d ∷ e ∷ more) address h = cc
 by_parts (a ∷ b ∷ c ∷ d ∷ []) address h =
-    let last = parted (below (below (number_value 255 a) (number_value 255 b)) (number_value 255 c)) (number_value 255 d) address h in
-    let middle = parted (below (number_value 255 a) (number_value 255 b)) (number_value 255 c) last.above last.upper_is in
+    let last = parted (with_octet (with_octet (number_value 255 a) (number_value 255 b)) (number_value 255 c)) (number_value 255 d) address h in
+    let middle = parted (with_octet (number_value 255 a) (number_value 255 b)) (number_value 255 c) last.above last.upper_is in
     let front = parted (number_value 255 a) (number_value 255 b) middle.above middle.upper_is in
     let first = read_is_decimal 255 front.above a front.upper_is in
     let second = read_is_decimal 255 front.under b front.octet_is in

@@ -1,7 +1,10 @@
 pub mod Addresses
 pub mod Decimals
+pub mod Digits
+pub mod Dotted
+pub mod Elements
+pub mod KeyedFlows
 pub mod Numerals
 pub mod Octets
-pub mod Parts
 pub mod Reading
 pub mod ValueBits

@@ -1,18 +1,37 @@
 -- How many nodes and blocks a cluster has.
 use Rattle.std.specs.Prelude.{ℕ, ◌^◌, ◌<◌, ◌≤◌, nat_le, if◌then◌else◌}
-use Rattle.flow_types.specs.declared.shape.TheConstants.{FEWEST_NODES, MOST_NODES, FEWEST_BLOCKS, MOST_BLOCKS}
 
 -- what a contract sees of a shape
 pub record Size : Type 0 where
   pub nodes : ℕ
   pub blocks : ℕ
 
+-- a cluster has at least two nodes
+abbrev pub fewest_nodes : ℕ
+fewest_nodes = 2
+
+-- a cluster has at most sixteen nodes
+abbrev pub most_nodes : ℕ
+most_nodes = 16
+
+-- a table has at least one block
+abbrev pub fewest_blocks : ℕ
+fewest_blocks = 1
+
+-- a table has at most 256 blocks
+abbrev pub most_blocks : ℕ
+most_blocks = 256
+
+-- four bits tell sixteen nodes apart
+abbrev pub most_value_bits : ℕ
+most_value_bits = 4
+
 -- so many nodes and blocks make a cluster
 pub record IsShape (nodes blocks : ℕ) : Type 0 where
-  pub enough_nodes : FEWEST_NODES ≤ nodes
-  pub few_nodes : nodes ≤ MOST_NODES
-  pub enough_blocks : FEWEST_BLOCKS ≤ blocks
-  pub few_blocks : blocks ≤ MOST_BLOCKS
+  pub enough_nodes : fewest_nodes ≤ nodes
+  pub few_nodes : nodes ≤ most_nodes
+  pub enough_blocks : fewest_blocks ≤ blocks
+  pub few_blocks : blocks ≤ most_blocks
 
 -- how many value bits tell so many nodes apart
 abbrev pub value_bits : ℕ → ℕ

@@ -21,15 +21,15 @@ abbrev pub is_dot : ℕ → Bool
 is_dot c = c == 46
 
 -- a number, where there is one, with one more octet below it
-abbrev pub below : Option ℕ → Option ℕ → Option ℕ
-below None octet = None
-below (Some upper) None = None
-below (Some upper) (Some octet) = Some (upper * 256 + octet)
+abbrev pub with_octet : Option ℕ → Option ℕ → Option ℕ
+with_octet None octet = None
+with_octet (Some upper) None = None
+with_octet (Some upper) (Some octet) = Some (upper * 256 + octet)
 
 -- the address of four octets, the greatest first, each a number of at most 255
 abbrev pub four_octets : List ℕ → List ℕ → List ℕ → List ℕ → Option ℕ
 four_octets a b c d =
-    below (below (below (number_value 255 a) (number_value 255 b)) (number_value 255 c)) (number_value 255 d)
+    with_octet (with_octet (with_octet (number_value 255 a) (number_value 255 b)) (number_value 255 c)) (number_value 255 d)
 
 -- the address of just four octets
 abbrev pub address_of_octets : List (List ℕ) → Option ℕ

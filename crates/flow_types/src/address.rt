@@ -1,10 +1,9 @@
-ghost use Rattle.std.specs.Prelude.{◌≡◌, ◌+◌, ◌≤◌, ◌∷◌, [], ◌++◌, MatchOption, None};
-ghost use Rattle.std.specs.List.{position, slice_split};
+ghost use Rattle.std.specs.Prelude.{◌≡◌, ℕ, ◌+◌, ◌≤◌, ◌∷◌, ◌++◌, List, MatchOption, None};
 ghost use Rattle.std.specs.Fmt.{decimal};
 ghost use Rattle.arrayvec.specs.ArrayVec.{array_vec_len};
-ghost use Rattle.flow_types.specs.Text.{address_value, address_text, four_octets, is_dot, number_value};
+ghost use Rattle.flow_types.specs.Octet.{octet_with};
+ghost use Rattle.flow_types.specs.Text.{address_value, address_text};
 
-use crate::numeral::read_number;
 use arrayvec::ArrayVec;
 
 /// The IPv4 address that a dotted text writes: four numbers of 0..=255 joined by three dots, none with a leading zero.
@@ -12,49 +11,40 @@ use arrayvec::ArrayVec;
 pub fn read_address(text: &[u8]) -> Option<u32>
     ensures { result ≡ address_value text.now }
 {
-    let (first, second, third, fourth) = split_octets(text)?;
-    let octets = [
-        read_octet(first)?,
-        read_octet(second)?,
-        read_octet(third)?,
-        read_octet(fourth)?,
-    ];
-    Some(u32::from_be_bytes(octets))
+    let mut upper = 0u32;
+    let mut octet = None;
+    let mut dots_left = 3u8;
+    'octets: for c in text {
+        if *c == b'.' {
+            dots_left = dots_left.checked_sub(1)?;
+            upper = upper * 256 + u32::from(octet?);
+            octet = None;
+        } else {
+            octet = Some(with_digit(octet, *c)?);
+        }
+    }
+    if dots_left == 0 {
+        Some(upper * 256 + u32::from(octet?))
+    } else {
+        None
+    }
 }
 
-/// The texts of the four octets, where there are so many. The last may have a further dot, and is no number then.
-#[tactic(auto, using(crate::proofs::Parts::parts_of_a_text))]
-fn split_octets(text: &[u8]) -> Option<(&[u8], &[u8], &[u8], &[u8])>
-    ensures { MatchOption result (address_value text.now ≡ None)
-        (λ octets. address_value text.now ≡ four_octets octets.0.now octets.1.now octets.2.now octets.3.now) }
+/// An octet with one more digit at its end, where that is one. A first digit 0 has no digit after it.
+#[tactic(auto, using(crate::proofs::Digits::digits))]
+fn with_digit(octet: Option<u8>, c: u8) -> Option<u8>
+    ensures { MatchOption result ((cs : List ℕ) → octet_with octet (c ∷ cs) ≡ None)
+        (λ more. (cs : List ℕ) → octet_with octet (c ∷ cs) ≡ octet_with (Some more) cs) }
 {
-    let (first, rest) = split_at_dot(text)?;
-    let (second, rest) = split_at_dot(rest)?;
-    let (third, fourth) = split_at_dot(rest)?;
-    Some((first, second, third, fourth))
-}
-
-/// The text before its first dot, and the text after it.
-#[tactic(auto, using(crate::proofs::Parts::dots))]
-fn split_at_dot(text: &[u8]) -> Option<(&[u8], &[u8])>
-    ensures { MatchOption result (slice_split is_dot text.now ≡ text.now ∷ [])
-        (λ halves. slice_split is_dot text.now ≡ halves.0.now ∷ slice_split is_dot halves.1.now) }
-{
-    let dot = first_dot(text)?;
-    Some((&text[..dot], &text[dot + 1..]))
-}
-
-fn first_dot(text: &[u8]) -> Option<usize>
-    ensures { result ≡ position is_dot text.now }
-{
-    text.iter().position(|c| *c == b'.')
-}
-
-fn read_octet(text: &[u8]) -> Option<u8>
-    ensures { result ≡ number_value 255 text.now }
-{
-    let octet = read_number(text, 255)?;
-    Some(octet as u8)
+    if !c.is_ascii_digit() {
+        return None;
+    }
+    let digit = c - b'0';
+    match octet {
+        None => Some(digit),
+        Some(0) => None,
+        Some(octet) => octet.checked_mul(10)?.checked_add(digit),
+    }
 }
 
 /// The dotted text of an address, the greatest octet first.

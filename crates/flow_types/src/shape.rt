@@ -1,6 +1,5 @@
 ghost use Rattle.std.specs.Prelude.{◌≡◌, ◌<◌, ◌≤◌, ◌%◌, ◌↔◌, IsSome, IfSome};
-ghost use Rattle.flow_types.specs.Size.{IsShape, AreValueBits, value_bits};
-ghost use Rattle.flow_types.specs.declared.shape.TheConstants.{FEWEST_NODES, MOST_NODES, FEWEST_BLOCKS, MOST_BLOCKS, MOST_VALUE_BITS};
+ghost use Rattle.flow_types.specs.Size.{IsShape, AreValueBits, fewest_blocks, fewest_nodes, most_blocks, most_nodes, most_value_bits, value_bits};
 
 use std::marker::Model;
 
@@ -53,8 +52,8 @@ impl Shape {
     /// The number of nodes, 2..=16. Nodes are numbered from 0.
     pub fn nodes(&self) -> u16
         ensures value { result ≡ self.now.nodes }
-        ensures least { FEWEST_NODES ≤ result }
-        ensures most { result ≤ MOST_NODES }
+        ensures least { fewest_nodes ≤ result }
+        ensures most { result ≤ most_nodes }
     {
         self.nodes
     }
@@ -62,8 +61,8 @@ impl Shape {
     /// The number of blocks, 1..=256. Blocks are numbered from 0.
     pub fn blocks(&self) -> u16
         ensures value { result ≡ self.now.blocks }
-        ensures least { FEWEST_BLOCKS ≤ result }
-        ensures most { result ≤ MOST_BLOCKS }
+        ensures least { fewest_blocks ≤ result }
+        ensures most { result ≤ most_blocks }
     {
         self.blocks
     }
@@ -71,7 +70,7 @@ impl Shape {
     pub fn value_bits(&self) -> u8
         ensures value { result ≡ value_bits self.now.nodes }
         ensures fewest { AreValueBits self.now.nodes result }
-        ensures most { result ≤ MOST_VALUE_BITS }
+        ensures most { result ≤ most_value_bits }
     {
         match self.nodes {
             0..=2 => 1,

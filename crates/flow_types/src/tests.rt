@@ -109,6 +109,9 @@ fn laws_can_be_called(rt: HostRuntime) {
     laws::key_of_its_number(KEY);
     laws::number_of_its_key();
     laws::octets_tell_keys_apart(KEY, KEY);
+    if let Some(shape) = Shape::new(2, 1) {
+        laws::numbers_of_a_shape(shape);
+    }
     let later = FlowKey {
         destination_port: 444,
         protocol: 0,

@@ -8,10 +8,11 @@ use Rattle.std.proofs.lemmas.List.Sums.{AllPass-from_list_all, list_all-from_All
 use Rattle.std.proofs.lemmas.List.Sorted.{All-permutation, IsPermutation-sym, IsPermutation-map, IsPermutation-trans, length_permutation, list_any-IsPermutation}
 use Rattle.std.proofs.lemmas.Nat.Bits.{same_from_bits, bit_at-lt}
 use Rattle.flow_types.specs.Key.{number}
+use Rattle.flow_types.specs.Map.{HaveDistinctKeys}
 use Rattle.group_search.specs.declared.entry.Entry.{Entry}
 use Rattle.group_search.specs.declared.limits.TheConstants.{INDEXES}
 use Rattle.group_search.specs.Serving.{reads, sets, array_of, array_serving, first_serving, least_of}
-use Rattle.group_search.specs.Rows.{HaveDistinctKeys, row_of, rows_of}
+use Rattle.group_search.specs.Rows.{row_of, rows_of, entry_key}
 use Rattle.group_search.specs.Canon.{canonical, fallback, least_pairs}
 use Rattle.group_search.specs.Laws.{IgnoresOrder}
 use Rattle.group_search.proofs.FirstServing.{hit_of, of_hit}
@@ -64,14 +65,14 @@ module _ (xs ys : List Entry) (same : IsPermutation xs ys) where
   pairs_permuted zero bit = refl
   pairs_permuted (suc count) bit = rw (least_permuted bit, pairs_permuted count (bit + 1))
 
-  rows_permuted_alike : HaveDistinctKeys xs → rows_of xs ≡ rows_of ys
+  rows_permuted_alike : HaveDistinctKeys entry_key xs → rows_of xs ≡ rows_of ys
   rows_permuted_alike h =
-      let distinct : HaveDistinctKeys ys = AllPairs-permutation (λ (a : Entry) (b : Entry). number a.key ≢ number b.key) (λ a b ne e. ne (sym e)) xs ys same h in
+      let distinct : HaveDistinctKeys entry_key ys = AllPairs-permutation (λ (a : Entry) (b : Entry). number a.key ≢ number b.key) (λ a b ne e. ne (sym e)) xs ys same h in
       rows_are ys (rows_of xs) distinct
       (IsPermutation-trans _ _ _ (IsPermutation-map row_of _ _ (IsPermutation-sym xs ys same)) (rows_permuted xs))
       (rows_rising xs h)
 
-  pub canonical_permuted : (bits : ℕ) → HaveDistinctKeys xs → canonical bits xs ≡ canonical bits ys
+  pub canonical_permuted : (bits : ℕ) → HaveDistinctKeys entry_key xs → canonical bits xs ≡ canonical bits ys
   unfolding canonical fallback
   canonical_permuted bits h = rw (pairs_permuted bits 0, rows_permuted_alike h, sym (length_permutation xs ys same))
 

@@ -8,7 +8,8 @@ use Rattle.hash_family.specs.Hash.{position}
 use Rattle.group_search.specs.declared.entry.Entry.{Entry}
 use Rattle.group_search.specs.declared.entry.Pair.{Pair}
 use Rattle.group_search.specs.declared.record.GroupRecord.TheVariants.{Served, Fallback}
-use Rattle.group_search.specs.declared.limits.TheConstants.{MOST_BITS, MOST_ROWS, FEWEST_ROWS}
+use Rattle.flow_types.specs.Size.{most_value_bits}
+use Rattle.group_search.specs.Limits.{most_rows, fewest_rows}
 use Rattle.group_search.specs.Served.{zero_pair}
 use Rattle.group_search.specs.Serving.{IsLeast, IsSeparable, NoneServes, least_of}
 use Rattle.group_search.specs.Rows.{rows_of}
@@ -24,8 +25,8 @@ module _ (entries : List Entry) where
 -- the pairs of the bits below `bit` are chosen, and those of the others are zero
 pub record AreChosen (entries : List Entry) (bits bit : ℕ) (pairs : List Pair) : Type 0 where
   pub chosen : option_map (λ rest. take bit pairs ++ rest) (least_pairs (bits - bit) bit entries) ≡ least_pairs bits 0 entries
-  pub width : length pairs ≡ MOST_BITS
-  pub rest : drop bit pairs ≡ replicate (MOST_BITS - bit) zero_pair
+  pub width : length pairs ≡ most_value_bits
+  pub rest : drop bit pairs ≡ replicate (most_value_bits - bit) zero_pair
 
 map_prepend : (front : List Pair) (pair : Pair) (later : Option (List Pair))
     → option_map (λ rest. (front ++ pair ∷ []) ++ rest) later ≡ option_map (λ rest. front ++ rest) (prepend (Some pair) later)
@@ -33,18 +34,18 @@ map_prepend front pair None = refl
 map_prepend front pair (Some rest) = ap Some (append_assoc front (pair ∷ []) rest)
 
 module _ (entries : List Entry) (bits bit : ℕ) (pairs : List Pair) (so_far : AreChosen entries bits bit pairs) where
-  pub chosen_more : (pair : Pair) → bit < bits → bits ≤ MOST_BITS → least_of bit entries ≡ Some pair → AreChosen entries bits (bit + 1) (set pairs bit pair)
+  pub chosen_more : (pair : Pair) → bit < bits → bits ≤ most_value_bits → least_of bit entries ≡ Some pair → AreChosen entries bits (bit + 1) (set pairs bit pair)
   chosen_more pair low few found =
       let next = least_pairs_next entries (bits - bit) bit (omega arith) in
       let left : bits - bit - 1 ≡ bits - (bit + 1) = omega arith in
       let inside : bit < length pairs = omega (arith, so_far.width) in
-      let shorter : MOST_BITS - bit - 1 ≡ MOST_BITS - (bit + 1) = omega arith in
+      let shorter : most_value_bits - bit - 1 ≡ most_value_bits - (bit + 1) = omega arith in
       record {
         chosen = rw (take_more_set pairs bit pair inside, map_prepend (take bit pairs) pair _)
             (rw (next, found, left) at so_far.chosen);
         width = length-set pairs bit pair ∙ so_far.width;
         rest = drop-set-lt (bit + 1) pairs bit pair (omega arith) ∙ sym (drop-drop 1 bit pairs) ∙ ap (drop 1) so_far.rest
-            ∙ drop-replicate 1 (MOST_BITS - bit) zero_pair ∙ ap (λ n. replicate n zero_pair) shorter;
+            ∙ drop-replicate 1 (most_value_bits - bit) zero_pair ∙ ap (λ n. replicate n zero_pair) shorter;
       }
 
   pub chosen_none : bit < bits → least_of bit entries ≡ None → least_pairs bits 0 entries ≡ None
@@ -150,17 +151,17 @@ array_with place (suc zero) low = (2 ^ place, bit_at-pow_same place)
 array_with place (suc (suc value)) low = absurd (omega arith)
 
 -- fewer than two entries are served at each bit
-few_served : (bit : ℕ) (entries : List Entry) → length entries < FEWEST_ROWS → ¬ NoneServes bit entries
+few_served : (bit : ℕ) (entries : List Entry) → length entries < fewest_rows → ¬ NoneServes bit entries
 few_served bit [] few none = none 0 0 (omega arith) refl
 few_served bit (e ∷ []) few none =
     let array = array_with (position e.pair 0) (bit_at e.node bit) (bit_at-lt e.node bit) in
     none 0 array.0 (omega arith) (rw (eq-eqb _ _ array.1))
 few_served bit (e ∷ next ∷ entries) few none = omega arith
 
-pub two_unserved : (bits : ℕ) (entries : List Entry) → least_pairs bits 0 entries ≡ None → FEWEST_ROWS ≤ length entries
+pub two_unserved : (bits : ℕ) (entries : List Entry) → least_pairs bits 0 entries ≡ None → fewest_rows ≤ length entries
 two_unserved bits entries h =
     let bad = unserved_from entries bits 0 h in
-    ⊎_elim (λ few. absurd (few_served bad.0 entries few bad.3)) (λ enough. enough) (cases_lt (length entries) FEWEST_ROWS)
+    ⊎_elim (λ few. absurd (few_served bad.0 entries few bad.3)) (λ enough. enough) (cases_lt (length entries) fewest_rows)
 
 pub separable_is : (bits : ℕ) (entries : List Entry) (answer : Bool) → answer ≡ is_separable bits entries → IsTrue answer ↔ IsSeparable bits entries
 separable_is bits entries answer e = subst (λ b. IsTrue b ↔ IsSeparable bits entries) (sym e) (separable_exactly entries bits)
@@ -172,10 +173,10 @@ module _ (bits : ℕ) (entries : List Entry) where
   unfolding canonical
   canonical_served pairs h = rw h
 
-  pub canonical_rows : least_pairs bits 0 entries ≡ None → length entries ≤ MOST_ROWS → canonical bits entries ≡ Some (Fallback (rows_of entries))
+  pub canonical_rows : least_pairs bits 0 entries ≡ None → length entries ≤ most_rows → canonical bits entries ≡ Some (Fallback (rows_of entries))
   unfolding canonical fallback
   canonical_rows h few = rw (h, le-leb _ _ few)
 
-  pub canonical_none : least_pairs bits 0 entries ≡ None → MOST_ROWS < length entries → canonical bits entries ≡ None
+  pub canonical_none : least_pairs bits 0 entries ≡ None → most_rows < length entries → canonical bits entries ≡ None
   unfolding canonical fallback
   canonical_none h many = rw (h, lt-leb _ _ many)

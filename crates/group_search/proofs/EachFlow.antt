@@ -7,13 +7,14 @@ use Rattle.std.proofs.lemmas.List.Kept.{AllPairs-filter}
 use Rattle.flow_types.specs.declared.record.Flow.{Flow}
 use Rattle.flow_types.specs.Key.{number}
 use Rattle.flow_types.specs.Size.{Size, IsShape, value_bits}
+use Rattle.flow_types.specs.Map.{AreDistinct}
 use Rattle.hash_family.specs.Hash.{pair}
 use Rattle.group_search.specs.declared.entry.Entry.{Entry}
 use Rattle.group_search.specs.declared.record.GroupRecord.{GroupRecord}
 use Rattle.group_search.specs.Decoding.{decode}
 use Rattle.group_search.specs.Home.{Home, home, is_home, opening}
 use Rattle.group_search.specs.Laws.{AreEntries}
-use Rattle.group_search.specs.Records.{AreDistinct, AreHandled, content_of, entries, entry_of, record_of}
+use Rattle.group_search.specs.Records.{AreHandled, content_of, entries, entry_of, record_of}
 use Rattle.group_search.specs.Routing.{GivesEachHandler, RoutesEachFlow}
 use Rattle.group_search.proofs.EachNode.{gives_each_node}
 use Rattle.group_search.proofs.Mapped.{all_mapped, all_pairs_mapped, all_passed}

@@ -25,7 +25,8 @@ use Rattle.group_search.specs.Decoding.{decode, value_of}
 use Rattle.group_search.specs.Laws.{AreEntries, GivesEachNode}
 use Rattle.group_search.proofs.Scan.{same_of_reads}
 use Rattle.group_search.proofs.Chosen.{are_least}
-use Rattle.group_search.proofs.Rising.{Contains_cases, later_member, rising_tail, rows_permuted, rows_rising}
+use Rattle.group_search.proofs.Rising.{later_member, rising_tail, rows_permuted, rows_rising}
+use Rattle.flow_types.proofs.Elements.{Contains_cases}
 
 -- ---- served
 

@@ -4,18 +4,19 @@ use Rattle.std.specs.Prelude.{nat_lt}
 use Rattle.std.proofs.lemmas.Bool.{cases_eq, ltb-true, ltb-false}
 use Rattle.flow_types.specs.declared.record.Flow.{Flow}
 use Rattle.flow_types.specs.Size.{Size}
-use Rattle.group_search.specs.declared.limits.TheConstants.{MOST_ENTRIES, MOST_ROWS}
+use Rattle.block_layout.specs.Limits.{most_keys}
+use Rattle.group_search.specs.Limits.{most_rows}
 use Rattle.group_search.specs.Home.{flows_of}
-use Rattle.group_search.specs.Build.{IsPast, IsWithin, NamesTheFirst, PastLimit, TellsTheFirst, block_of, first_past_limit, needed, or_later, past_limit, past_limit_at}
+use Rattle.group_search.specs.Build.{IsPastLimit, IsWithin, NamesTheFirst, PastLimit, TellsTheFirst, block_of, first_past_limit, needed, or_later, past_limit, past_limit_at}
 use Rattle.group_search.specs.Build.PastLimit.{TooManyFlows, TooManyRows}
 
 module _ (size : Size) (flows : List Flow) where
   -- what is past its limit at the block, if anything is
   Tells : (block : ℕ) → Option PastLimit → Type 0
   Tells block None = IsWithin size flows block
-  Tells block (Some past) = (block_of past ≡ block) × IsPast size flows past
+  Tells block (Some past) = (block_of past ≡ block) × IsPastLimit size flows past
 
-  tells-case : (block : ℕ) (full rows : Bool) → nat_lt MOST_ENTRIES (length (flows_of size.blocks block flows)) ≡ full → nat_lt MOST_ROWS (needed size flows block) ≡ rows
+  tells-case : (block : ℕ) (full rows : Bool) → nat_lt most_keys (length (flows_of size.blocks block flows)) ≡ full → nat_lt most_rows (needed size flows block) ≡ rows
       → Tells block (cond full (Some (TooManyFlows block)) (cond rows (Some (TooManyRows block (needed size flows block))) None))
   unfolding Tells
   tells-case block true rows f r = (refl, record { many = ltb-true _ _ f })
@@ -30,7 +31,7 @@ module _ (size : Size) (flows : List Flow) where
   FromHere : (count block : ℕ) → Option PastLimit → Type 0
   FromHere count block None = (other : ℕ) → block ≤ other → other < block + count → IsWithin size flows other
   FromHere count block (Some past) =
-      (block ≤ block_of past) × (block_of past < block + count) × IsPast size flows past
+      (block ≤ block_of past) × (block_of past < block + count) × IsPastLimit size flows past
       × ((other : ℕ) → block ≤ other → other < block_of past → IsWithin size flows other)
 
   one_more : (count block : ℕ) (here later : Option PastLimit) → Tells block here → FromHere count (block + 1) later → FromHere (suc count) block (or_later here later)

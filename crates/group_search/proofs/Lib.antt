@@ -1,5 +1,9 @@
 pub mod Bits
 pub mod Scan
+pub mod LaneLemmas
+pub mod LaneMasks
+pub mod Turns
+pub mod Kept
 pub mod FirstServing
 pub mod Distinct
 pub mod Rising

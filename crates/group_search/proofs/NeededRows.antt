@@ -8,7 +8,7 @@ use Rattle.group_search.specs.declared.entry.Entry.{Entry}
 use Rattle.group_search.specs.declared.entry.Pair.{Pair}
 use Rattle.group_search.specs.declared.record.GroupRecord.{GroupRecord}
 use Rattle.group_search.specs.declared.record.GroupRecord.TheVariants.{Served, Fallback}
-use Rattle.group_search.specs.declared.limits.TheConstants.{MOST_ROWS}
+use Rattle.group_search.specs.Limits.{most_rows}
 use Rattle.group_search.specs.Rows.{row_of, rows_of}
 use Rattle.group_search.specs.Canon.{canonical, fallback, is_separable, least_pairs, served_or, rows_in}
 use Rattle.group_search.specs.Build.{rows_needed}
@@ -29,25 +29,25 @@ module _ (entries : List Entry) where
       → rows_in content ≡ cond (is_some pairs) 0 (length entries)
   unfolding fallback
   kept_rows (Some pairs) content e = same_rows (Served pairs) content e
-  kept_rows None content e = fallback_rows (nat_le (length entries) MOST_ROWS) content e
+  kept_rows None content e = fallback_rows (nat_le (length entries) most_rows) content e
 
   -- a canonical record has the rows that the entries need
   pub rows_of_canonical : (bits : ℕ) (content : GroupRecord) → canonical bits entries ≡ Some content → rows_in content ≡ rows_needed bits entries
   unfolding canonical rows_needed is_separable
   rows_of_canonical bits content e = kept_rows (least_pairs bits 0 entries) content e
 
-  fallback_none : (few : Bool) → nat_le (length entries) MOST_ROWS ≡ few → cond few (Some (Fallback (rows_of entries))) None ≡ None → MOST_ROWS < length entries
+  fallback_none : (few : Bool) → nat_le (length entries) most_rows ≡ few → cond few (Some (Fallback (rows_of entries))) None ≡ None → most_rows < length entries
   fallback_none true test e = cc
   fallback_none false test e = grind (arith, nat_tests)
 
   kept_none : (pairs : Option (List Pair)) → served_or pairs (fallback entries) ≡ None
-      → (cond (is_some pairs) 0 (length entries) ≡ length entries) × (MOST_ROWS < length entries)
+      → (cond (is_some pairs) 0 (length entries) ≡ length entries) × (most_rows < length entries)
   unfolding fallback
   kept_none (Some pairs) e = cc
-  kept_none None e = (refl, fallback_none (nat_le (length entries) MOST_ROWS) refl e)
+  kept_none None e = (refl, fallback_none (nat_le (length entries) most_rows) refl e)
 
   -- entries without a canonical record need a row each, which are too many
-  pub without_record : (bits : ℕ) → canonical bits entries ≡ None → (rows_needed bits entries ≡ length entries) × (MOST_ROWS < length entries)
+  pub without_record : (bits : ℕ) → canonical bits entries ≡ None → (rows_needed bits entries ≡ length entries) × (most_rows < length entries)
   unfolding canonical rows_needed is_separable
   without_record bits e = kept_none (least_pairs bits 0 entries) e
 

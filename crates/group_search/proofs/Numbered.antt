@@ -4,15 +4,16 @@ use Rattle.std.proofs.lemmas.Bool.{cases_eq}
 use Rattle.std.proofs.lemmas.List.{length_push, get_or_append_left}
 use Rattle.std.proofs.Math.Seq.{get_or-append_seam}
 use Rattle.flow_types.specs.Key.{number}
+use Rattle.flow_types.specs.Map.{HaveDistinctKeys}
+use Rattle.group_search.specs.Rows.{entry_key}
 use Rattle.group_search.specs.declared.entry.Entry.{Entry}
-use Rattle.group_search.specs.Rows.{HaveDistinctKeys}
 
 -- so many entries with this source, numbered from 1 up
 pub record AreNumbered (source count : ℕ) (entries : List Entry) : Type 0 where
   pub all : length entries ≡ count
   pub at : (k : ℕ) (d : Entry) → k < length entries → number (get_or entries k d).key ≡ source * 2 ^ 72 + k + 1
 
-pub numbered_distinct : (source count : ℕ) (entries : List Entry) → AreNumbered source count entries → HaveDistinctKeys entries
+pub numbered_distinct : (source count : ℕ) (entries : List Entry) → AreNumbered source count entries → HaveDistinctKeys entry_key entries
 numbered_distinct source count entries h = λ i j d low high same.
     let a = h.at i d (omega arith) in
     let b = h.at j d high in

@@ -1,5 +1,5 @@
 -- Rows by rising key: rows with the same members are the same list, and entries' rows are such a list.
-use Rattle.std.proofs.Common.{◌≡◌, ◌≢◌, ◌⊎◌, ℕ, zero, suc, ◌+◌, ◌<◌, ◌≤◌, Bool, true, false, cond, List, [], ◌∷◌, length, map, get_or, sym, ◌∙◌, ap, refl, arith, add-one, subst, ⊎_elim, inl, inr}
+use Rattle.std.proofs.Common.{◌≡◌, ◌≢◌, ℕ, zero, suc, ◌+◌, ◌<◌, ◌≤◌, Bool, true, false, cond, List, [], ◌∷◌, length, map, get_or, sym, ◌∙◌, ap, refl, arith, add-one, subst, ⊎_elim}
 use Rattle.std.specs.Prelude.{All, AllPairs, Contains, IsPermutation, nat_lt}
 use Rattle.std.specs.List.{refill}
 use Rattle.std.proofs.lemmas.Bool.Decides.{nat_tests}
@@ -10,9 +10,11 @@ use Rattle.std.specs.List.Sorted.{IsNonDecreasingBy}
 use Rattle.group_search.proofs.Distinct.{AllPairs-permutation}
 use Rattle.group_search.specs.declared.entry.Entry.{Entry}
 use Rattle.group_search.specs.declared.rows.Row.{Row}
-use Rattle.group_search.specs.Rows.{key_number, IsRising, AreRows, HaveDistinctKeys, row_of, put_row, rows_of}
-use Rattle.group_search.specs.declared.limits.TheConstants.{FEWEST_ROWS, MOST_ROWS}
+use Rattle.group_search.specs.Rows.{key_number, IsRising, AreRows, row_of, put_row, rows_of, entry_key}
+use Rattle.group_search.specs.Limits.{fewest_rows, most_rows}
 use Rattle.std.proofs.lemmas.List.{take-append-le, take_all, length-map}
+use Rattle.flow_types.specs.Map.{HaveDistinctKeys}
+use Rattle.flow_types.proofs.Elements.{Contains-first, Contains-later, Contains_cases}
 
 -- ---- rising lists from their first row
 
@@ -34,19 +36,6 @@ rising_cons row (next ∷ rows) above h = at where
   at (suc k) d low = rw add-one (rw add-one at (h k d (omega arith)))
 
 -- ---- members
-
-Contains-first : (row : Row) (rows : List Row) → Contains (row ∷ rows) row
-Contains-first row rows = (0, omega arith, refl)
-
-Contains-later : (row r : Row) (rows : List Row) → Contains rows r → Contains (row ∷ rows) r
-Contains-later row r rows h = (suc h.0, omega (arith, h.1), h.2)
-
-Contains_cases-at : (row r : Row) (rows : List Row) (k : ℕ) → k < length (row ∷ rows) → get_or (row ∷ rows) k r ≡ r → (row ≡ r) ⊎ Contains rows r
-Contains_cases-at row r rows zero low same = inl same
-Contains_cases-at row r rows (suc k) low same = inr (k, omega arith, same)
-
-pub Contains_cases : (row r : Row) (rows : List Row) → Contains (row ∷ rows) r → (row ≡ r) ⊎ Contains rows r
-Contains_cases row r rows h = Contains_cases-at row r rows h.0 h.1 h.2
 
 -- a member of the rows after a first one has another key
 pub later_member : (row r : Row) (rows : List Row) → IsRising (row ∷ rows) → Contains rows r → key_number row < key_number r
@@ -132,20 +121,20 @@ rows_permuted [] = IsPermutation-refl _
 rows_permuted (e ∷ entries) =
     IsPermutation-trans _ _ _ (IsPermutation-cons (row_of e) _ _ (rows_permuted entries)) (put_permuted (row_of e) (rows_of entries))
 
-distinct_tail : (e : Entry) (entries : List Entry) → HaveDistinctKeys (e ∷ entries) → HaveDistinctKeys entries
+distinct_tail : (e : Entry) (entries : List Entry) → HaveDistinctKeys entry_key (e ∷ entries) → HaveDistinctKeys entry_key entries
 distinct_tail e entries h = λ i j d low high. h (suc i) (suc j) d (omega arith) (omega arith)
 
-distinct_head : (e : Entry) (entries : List Entry) → HaveDistinctKeys (e ∷ entries) → All (λ (a : Entry). key_number (row_of e) ≢ key_number (row_of a)) entries
+distinct_head : (e : Entry) (entries : List Entry) → HaveDistinctKeys entry_key (e ∷ entries) → All (λ (a : Entry). key_number (row_of e) ≢ key_number (row_of a)) entries
 distinct_head e entries h = λ k d low. h 0 (suc k) d (omega arith) (omega arith)
 
-pub distinct_rows : (entries : List Entry) → HaveDistinctKeys entries → AllPairs (λ (a : Row) (b : Row). key_number a ≢ key_number b) (map row_of entries)
+pub distinct_rows : (entries : List Entry) → HaveDistinctKeys entry_key entries → AllPairs (λ (a : Row) (b : Row). key_number a ≢ key_number b) (map row_of entries)
 distinct_rows [] h = λ i j d low high. absurd (omega arith)
 distinct_rows (e ∷ entries) h =
     AllPairs-cons (λ (a : Row) (b : Row). key_number a ≢ key_number b) (row_of e) (map row_of entries)
     (All-map (λ r. key_number (row_of e) ≢ key_number r) row_of entries (distinct_head e entries h))
     (distinct_rows entries (distinct_tail e entries h))
 
-pub rows_rising : (entries : List Entry) → HaveDistinctKeys entries → IsRising (rows_of entries)
+pub rows_rising : (entries : List Entry) → HaveDistinctKeys entry_key entries → IsRising (rows_of entries)
 unfolding rows_of
 rows_rising [] h = λ k d low. absurd (omega arith)
 rows_rising (e ∷ entries) h =
@@ -155,13 +144,13 @@ rows_rising (e ∷ entries) h =
     (rows_rising entries (distinct_tail e entries h))
 
 -- rising rows with the entries' keys and nodes are the entries' rows
-pub rows_are : (entries : List Entry) (rows : List Row) → HaveDistinctKeys entries → IsPermutation (map row_of entries) rows → IsRising rows → rows ≡ rows_of entries
+pub rows_are : (entries : List Entry) (rows : List Row) → HaveDistinctKeys entry_key entries → IsPermutation (map row_of entries) rows → IsRising rows → rows ≡ rows_of entries
 rows_are entries rows h p up =
     same_permuted rows (rows_of entries) up (rows_rising entries h)
     (IsPermutation-trans _ _ _ (IsPermutation-sym _ _ p) (rows_permuted entries))
 
 -- rows that don't fall, with the keys and nodes of entries with distinct keys, rise
-pub sorted_rising : (entries : List Entry) (rows : List Row) → HaveDistinctKeys entries → IsPermutation (map row_of entries) rows → IsNonDecreasingBy key_number rows → IsRising rows
+pub sorted_rising : (entries : List Entry) (rows : List Row) → HaveDistinctKeys entry_key entries → IsPermutation (map row_of entries) rows → IsNonDecreasingBy key_number rows → IsRising rows
 sorted_rising entries rows h p up =
     let Other : Row → Row → Type 0 = λ a b. key_number a ≢ key_number b in
     let before : AllPairs Other (map row_of entries) = distinct_rows entries h in
@@ -177,7 +166,7 @@ pub record IsSortedInto (entries : List Entry) (items rows : List Row) : Type 0 
   pub valid : AreRows rows
   pub same : rows ≡ rows_of entries
 
-pub sorted_into : (entries : List Entry) (items rows : List Row) → HaveDistinctKeys entries → FEWEST_ROWS ≤ length entries → length entries ≤ MOST_ROWS
+pub sorted_into : (entries : List Entry) (items rows : List Row) → HaveDistinctKeys entry_key entries → fewest_rows ≤ length entries → length entries ≤ most_rows
     → items ≡ map row_of entries → IsPermutation items rows → IsNonDecreasingBy key_number rows → IsSortedInto entries items rows
 sorted_into entries items rows h enough few is p up =
     let permuted : IsPermutation (map row_of entries) rows = subst (λ xs. IsPermutation xs rows) is p in

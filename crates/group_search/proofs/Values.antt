@@ -10,7 +10,7 @@ use Rattle.std.proofs.lemmas.Nat.Bits.{bit_at-lt, shr_and_one}
 use Rattle.hash_family.specs.Hash.{position}
 use Rattle.hash_family.specs.declared.pairing.HashPair.{HashPair}
 use Rattle.group_search.specs.declared.entry.Pair.{Pair}
-use Rattle.group_search.specs.declared.limits.TheConstants.{MOST_BITS}
+use Rattle.flow_types.specs.Size.{most_value_bits}
 use Rattle.group_search.specs.Served.{zero_pair}
 use Rattle.group_search.specs.Decoding.{value_of}
 
@@ -41,7 +41,7 @@ add_bit x bit value hx hb hv =
 sum_more : (x power value rest total above : ℕ) → value + total * power ≡ above → total ≡ x + 2 * rest → (x * power + value) + rest * (2 * power) ≡ above
 sum_more x power value rest total above e f = omega (arith, ap (λ t. value + t * power) f)
 
-pub value_more : (hashes : HashPair) (pairs : List Pair) (bit value place : ℕ) → bit < length pairs → length pairs ≤ MOST_BITS
+pub value_more : (hashes : HashPair) (pairs : List Pair) (bit value place : ℕ) → bit < length pairs → length pairs ≤ most_value_bits
     → place ≡ position hashes (get_or pairs bit zero_pair).index → IsValueSoFar hashes pairs bit value
     → IsValueSoFar hashes pairs (bit + 1) (bit_or value (bit_and ((get_or pairs bit zero_pair).array / 2 ^ place) 1 * 2 ^ bit % 256))
 value_more hashes pairs bit value place low few at so_far =

@@ -8,7 +8,7 @@ use Rattle.std.proofs.Math.ListN.{drop_of_length-le}
 use Rattle.group_search.specs.declared.entry.Pair.{Pair}
 use Rattle.group_search.specs.declared.words.Packed.{Packed}
 use Rattle.group_search.specs.declared.words.Packed.TheVariants.{Served, Fallback}
-use Rattle.group_search.specs.declared.limits.TheConstants.{MOST_BITS}
+use Rattle.flow_types.specs.Size.{most_value_bits}
 use Rattle.group_search.specs.Served.{IsServed, zero_pair, padded, length_taken}
 use Rattle.group_search.specs.Words.{IsPair, AreServedWords, AreFallbackWords, PacksTo, pair_at, pair_in, pair_word, pairs_in, served_words}
 
@@ -66,8 +66,8 @@ zeros (p ∷ pairs) h =
     ap (λ x. P x pairs) (All-head (λ q. q ≡ zero_pair) p pairs h) ∙ ap (P zero_pair) (zeros pairs (All-tail (λ q. q ≡ zero_pair) p pairs h))
 
 -- one to four pairs, written out to four
-listed : (pairs : List Pair) → 1 ≤ length pairs → length pairs ≤ MOST_BITS
-    → pair_at pairs 0 ∷ pair_at pairs 1 ∷ pair_at pairs 2 ∷ pair_at pairs 3 ∷ [] ≡ pairs ++ replicate (MOST_BITS - length pairs) zero_pair
+listed : (pairs : List Pair) → 1 ≤ length pairs → length pairs ≤ most_value_bits
+    → pair_at pairs 0 ∷ pair_at pairs 1 ∷ pair_at pairs 2 ∷ pair_at pairs 3 ∷ [] ≡ pairs ++ replicate (most_value_bits - length pairs) zero_pair
 listed [] enough few = absurd (omega arith)
 listed (a ∷ []) enough few = refl
 listed (a ∷ b ∷ []) enough few = refl
@@ -82,24 +82,24 @@ abbrev pub pairs_there : List ℕ → List Pair
 pairs_there words = pairs_in (get_or words 0 0) (get_or words 1 0)
 
 module _ (bits : ℕ) (pairs : List Pair) (words : List ℕ) (h : AreServedWords bits pairs words) where
-  pairs_back : pairs_there words ≡ pairs ++ replicate (MOST_BITS - bits) zero_pair
+  pairs_back : pairs_there words ≡ pairs ++ replicate (most_value_bits - bits) zero_pair
   pairs_back =
       let at : (i : ℕ) → IsPair (pair_at pairs i) = λ i. pair_at_sized pairs i h.sized in
       let four = listed pairs (omega (arith, h.one_each, h.enough)) (omega (arith, h.one_each, h.few)) in
       rw (h.spelled, first_back _ _ (at 0) (at 1), second_back _ _ (at 0) (at 1), first_back _ _ (at 2) (at 3), second_back _ _ (at 2) (at 3))
-      (four ∙ ap (λ n. pairs ++ replicate (MOST_BITS - n) zero_pair) h.one_each)
+      (four ∙ ap (λ n. pairs ++ replicate (most_value_bits - n) zero_pair) h.one_each)
 
   pub first_below : get_or words 0 0 < 2 ^ 48
   first_below = rw h.spelled (word_below _ _ (pair_at_sized pairs 0 h.sized) (pair_at_sized pairs 1 h.sized))
 
   pub rest_is_zero : All (λ p. p ≡ zero_pair) (drop bits (pairs_there words))
   rest_is_zero =
-      let rest : drop bits (pairs ++ replicate (MOST_BITS - bits) zero_pair) ≡ replicate (MOST_BITS - bits) zero_pair =
-      drop-append-le bits pairs _ (omega (arith, h.one_each)) ∙ ap (λ xs. xs ++ replicate (MOST_BITS - bits) zero_pair) (drop_of_length-le pairs (omega (arith, h.one_each))) in
-      rw (pairs_back, rest) (All-replicate (λ p. p ≡ zero_pair) (MOST_BITS - bits) zero_pair refl)
+      let rest : drop bits (pairs ++ replicate (most_value_bits - bits) zero_pair) ≡ replicate (most_value_bits - bits) zero_pair =
+      drop-append-le bits pairs _ (omega (arith, h.one_each)) ∙ ap (λ xs. xs ++ replicate (most_value_bits - bits) zero_pair) (drop_of_length-le pairs (omega (arith, h.one_each))) in
+      rw (pairs_back, rest) (All-replicate (λ p. p ≡ zero_pair) (most_value_bits - bits) zero_pair refl)
 
   pub spelled_again : served_words (pairs_there words) ≡ words
-  spelled_again = ap served_words pairs_back ∙ served_words_padded pairs (MOST_BITS - bits) ∙ sym h.spelled
+  spelled_again = ap served_words pairs_back ∙ served_words_padded pairs (most_value_bits - bits) ∙ sym h.spelled
 
   pub taken_are : take bits (pairs_there words) ≡ pairs
   taken_are =
@@ -107,10 +107,10 @@ module _ (bits : ℕ) (pairs : List Pair) (words : List ℕ) (h : AreServedWords
 
 -- the slice of the pairs past the bits
 pub rest_of : (from bits : ℕ) (pairs : List Pair) (words : List ℕ) → from ≡ bits → pairs ≡ pairs_there words
-    → take (MOST_BITS - from) (drop from pairs) ≡ drop bits (pairs_there words)
+    → take (most_value_bits - from) (drop from pairs) ≡ drop bits (pairs_there words)
 rest_of from bits pairs words e f =
-    let long : length (pairs_there words) ≡ MOST_BITS = refl in
-    rw (e, f) (take_all (MOST_BITS - bits) (drop bits (pairs_there words)) (omega (arith, length-drop bits (pairs_there words), long)))
+    let long : length (pairs_there words) ≡ most_value_bits = refl in
+    rw (e, f) (take_all (most_value_bits - bits) (drop bits (pairs_there words)) (omega (arith, length-drop bits (pairs_there words), long)))
 
 -- four pairs with zero pairs past the bits make the words of those below them
 pub packed_pairs : (bits : ℕ) (pairs : List Pair) (words : List ℕ) → IsServed bits pairs → All IsPair pairs → words ≡ served_words pairs → AreServedWords bits (take bits pairs) words
@@ -120,14 +120,14 @@ packed_pairs bits pairs words h sized spelled =
       enough = h.enough;
       few = h.few;
       sized = All-take IsPair bits pairs sized;
-      spelled = spelled ∙ ap served_words (sym (padded bits pairs h)) ∙ served_words_padded (take bits pairs) (MOST_BITS - bits);
+      spelled = spelled ∙ ap served_words (sym (padded bits pairs h)) ∙ served_words_padded (take bits pairs) (most_value_bits - bits);
     }
 
 -- pairs whose words these are, with zero pairs past the bits
-module _ (bits : ℕ) (words : List ℕ) (enough : 1 ≤ bits) (few : bits ≤ MOST_BITS) (rest : All (λ p. p ≡ zero_pair) (drop bits (pairs_there words))) where
+module _ (bits : ℕ) (words : List ℕ) (enough : 1 ≤ bits) (few : bits ≤ most_value_bits) (rest : All (λ p. p ≡ zero_pair) (drop bits (pairs_there words))) where
   pub served_there : IsServed bits (pairs_there words)
   served_there =
-      let long : length (drop bits (pairs_there words)) ≡ MOST_BITS - bits = length-drop bits (pairs_there words) in
+      let long : length (drop bits (pairs_there words)) ≡ most_value_bits - bits = length-drop bits (pairs_there words) in
       record { enough = enough; few = few; width = refl; rest = zeros _ rest ∙ ap (λ n. replicate n zero_pair) long }
 
   pub words_there : served_words (pairs_there words) ≡ words → AreServedWords bits (take bits (pairs_there words)) words

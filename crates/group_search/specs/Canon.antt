@@ -5,7 +5,7 @@ use Rattle.group_search.specs.declared.entry.Pair.{Pair}
 use Rattle.group_search.specs.declared.rows.Row.{Row}
 use Rattle.group_search.specs.declared.record.GroupRecord.{GroupRecord}
 use Rattle.group_search.specs.declared.record.GroupRecord.TheVariants.{Served, Fallback}
-use Rattle.group_search.specs.declared.limits.TheConstants.{MOST_ROWS}
+use Rattle.group_search.specs.Limits.{most_rows}
 use Rattle.group_search.specs.Served.{zero_pair}
 use Rattle.group_search.specs.Serving.{IsLeast, IsSeparable, least_of}
 use Rattle.group_search.specs.Rows.{AreRowsOf, rows_of}
@@ -27,7 +27,7 @@ is_separable bits entries = is_some (least_pairs bits 0 entries)
 
 -- the rows of a group that no indexes serve, where they are few enough
 unfoldable pub fallback : List Entry → Option GroupRecord
-fallback entries = if nat_le (length entries) MOST_ROWS then Some (Fallback (rows_of entries)) else None
+fallback entries = if nat_le (length entries) most_rows then Some (Fallback (rows_of entries)) else None
 
 -- the least pairs as a record, or what stands in their place
 abbrev pub served_or : Option (List Pair) → Option GroupRecord → Option GroupRecord
@@ -46,7 +46,7 @@ pub record AreLeast (bits : ℕ) (entries : List Entry) (pairs : List Pair) : Ty
 -- the entries aren't separable, and these are their rows
 pub record IsFallback (bits : ℕ) (entries : List Entry) (rows : List Row) : Type 0 where
   pub not_separable : ¬ IsSeparable bits entries
-  pub few : length entries ≤ MOST_ROWS
+  pub few : length entries ≤ most_rows
   pub by_key : AreRowsOf entries rows
 
 -- the record is Served with the least pairs where the entries are separable, and else Fallback with their rows

@@ -21,10 +21,10 @@ abbrev pub node_of : FlowKey → List Row → Option ℕ
 node_of key rows = option_map (λ row. row.node) (find (λ row. key_number row == number key) rows)
 
 -- the number, where it is one of a node
-abbrev pub below : (nodes value : ℕ) → Option ℕ
-below nodes value = if nat_lt value nodes then Some value else None
+abbrev pub as_node : (nodes value : ℕ) → Option ℕ
+as_node nodes value = if nat_lt value nodes then Some value else None
 
 -- the node that the record gives the key, if any
 unfoldable pub decode : GroupRecord → (nodes : ℕ) → FlowKey → Option ℕ
-decode (Served pairs) nodes key = below nodes (value_of (pair key) pairs)
+decode (Served pairs) nodes key = as_node nodes (value_of (pair key) pairs)
 decode (Fallback rows) nodes key = node_of key rows

@@ -6,7 +6,7 @@ use Rattle.flow_types.specs.declared.record.Flow.{Flow}
 use Rattle.hash_family.specs.Hash.{place}
 use Rattle.block_layout.specs.Candidate.{candidate}
 use Rattle.block_layout.specs.Dealing.{choices_of}
-use Rattle.block_layout.specs.declared.limits.TheConstants.{BUCKETS}
+use Rattle.block_layout.specs.Limits.{bucket_count}
 
 -- a group of a block
 pub record Home : Type 0 where
@@ -27,7 +27,7 @@ flows_of blocks block flows = filter (is_in blocks block) flows
 
 -- how many of a block's flows each bucket has
 unfoldable pub sizes : (blocks block : ℕ) → List Flow → List ℕ
-sizes blocks block flows = map (λ (bucket : ℕ). count_by (is_in_bucket blocks bucket) (flows_of blocks block flows)) (range_with_len 0 BUCKETS)
+sizes blocks block flows = map (λ (bucket : ℕ). count_by (is_in_bucket blocks bucket) (flows_of blocks block flows)) (range_with_len 0 bucket_count)
 
 -- which of its candidates each bucket of a block is assigned to
 unfoldable pub choices : (blocks block : ℕ) → List Flow → List ℕ

@@ -1,4 +1,6 @@
+pub mod Limits
 pub mod Serving
+pub mod Lanes
 pub mod Rows
 pub mod Served
 pub mod ServedFields

@@ -1,17 +1,12 @@
 -- The record of a list of flows with distinct keys, and of each group that the flows of a cluster open.
-use Rattle.std.specs.Prelude.{ℕ, ◌≢◌, ◌<◌, List, map, Option, All, AllPairs}
+use Rattle.std.specs.Prelude.{ℕ, ◌<◌, List, map, Option, All}
 use Rattle.flow_types.specs.declared.record.Flow.{Flow}
-use Rattle.flow_types.specs.Key.{number}
 use Rattle.flow_types.specs.Size.{Size, value_bits}
 use Rattle.hash_family.specs.Hash.{pair}
 use Rattle.group_search.specs.declared.entry.Entry.{Entry}
 use Rattle.group_search.specs.declared.record.GroupRecord.{GroupRecord}
 use Rattle.group_search.specs.Canon.{canonical}
 use Rattle.group_search.specs.Home.{Home, opening}
-
--- no two flows have one key
-abbrev pub AreDistinct : List Flow → Type 0
-AreDistinct flows = AllPairs (λ (a : Flow) (b : Flow). number a.key ≢ number b.key) flows
 
 -- each flow's handler is one of so many nodes
 abbrev pub AreHandled : (nodes : ℕ) → List Flow → Type 0

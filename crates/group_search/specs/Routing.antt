@@ -2,10 +2,11 @@
 use Rattle.std.specs.Prelude.{◌≡◌, List, Some, All}
 use Rattle.flow_types.specs.declared.record.Flow.{Flow}
 use Rattle.flow_types.specs.Size.{Size, IsShape}
+use Rattle.flow_types.specs.Map.{AreDistinct}
 use Rattle.group_search.specs.declared.record.GroupRecord.{GroupRecord}
 use Rattle.group_search.specs.Decoding.{decode}
 use Rattle.group_search.specs.Home.{home}
-use Rattle.group_search.specs.Records.{AreDistinct, AreHandled, content_of, record_of}
+use Rattle.group_search.specs.Records.{AreHandled, content_of, record_of}
 
 -- the record of a group gives the key of each of the group's flows the flow's handler
 abbrev pub GivesEachHandler : Type 0

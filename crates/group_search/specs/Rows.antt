@@ -1,10 +1,11 @@
--- The rows of a group that no indexes serve.
-use Rattle.std.specs.Prelude.{ℕ, ◌≢◌, ◌<◌, ◌≤◌, List, [], ◌∷◌, length, map, AllPairs, if◌then◌else◌, nat_lt, IsPermutation}
+-- Fallback rows: the keys and nodes of a group that no indexes serve.
+use Rattle.std.specs.Prelude.{ℕ, ◌<◌, ◌≤◌, List, [], ◌∷◌, length, map, if◌then◌else◌, nat_lt, IsPermutation}
 use Rattle.std.specs.List.{AllAdjacentBelow}
+use Rattle.flow_types.specs.declared.key.FlowKey.{FlowKey}
 use Rattle.flow_types.specs.Key.{number}
 use Rattle.group_search.specs.declared.entry.Entry.{Entry}
 use Rattle.group_search.specs.declared.rows.Row.{Row}
-use Rattle.group_search.specs.declared.limits.TheConstants.{FEWEST_ROWS, MOST_ROWS}
+use Rattle.group_search.specs.Limits.{fewest_rows, most_rows}
 
 abbrev pub key_number : Row → ℕ
 key_number row = number row.key
@@ -15,13 +16,12 @@ IsRising rows = AllAdjacentBelow (λ (a : Row) (b : Row). key_number a < key_num
 
 -- what every `Rows` is: 2 to 64 rows with strictly rising keys
 pub record AreRows (rows : List Row) : Type 0 where
-  pub enough : FEWEST_ROWS ≤ length rows
-  pub few : length rows ≤ MOST_ROWS
+  pub enough : fewest_rows ≤ length rows
+  pub few : length rows ≤ most_rows
   pub rising : IsRising rows
 
--- no two entries have one key
-abbrev pub HaveDistinctKeys : List Entry → Type 0
-HaveDistinctKeys entries = AllPairs (λ (a : Entry) (b : Entry). number a.key ≢ number b.key) entries
+abbrev pub entry_key : Entry → FlowKey
+entry_key e = e.key
 
 abbrev pub row_of : Entry → Row
 row_of e = record { key = e.key; node = e.node }

@@ -5,7 +5,7 @@ use Rattle.std.specs.List.{list_all, list_any}
 use Rattle.hash_family.specs.Hash.{position}
 use Rattle.group_search.specs.declared.entry.Entry.{Entry}
 use Rattle.group_search.specs.declared.entry.Pair.{Pair}
-use Rattle.group_search.specs.declared.limits.TheConstants.{INDEXES, POSITIONS}
+use Rattle.group_search.specs.Limits.{index_count, position_count}
 
 -- the array's bit at the entry's position under the index is this bit of the entry's node
 abbrev pub reads : (index array bit : ℕ) → Entry → Bool
@@ -21,19 +21,19 @@ sets index place bit e = (position e.pair index == place) && (bit_at e.node bit 
 
 -- the least index that serves, whatever the array; its array has 1 exactly where an entry whose bit is 1 stands
 pub record IsLeast (bit : ℕ) (entries : List Entry) (pair : Pair) : Type 0 where
-  pub in_range : pair.index < INDEXES
+  pub in_range : pair.index < index_count
   pub serves_here : IsTrue (serves pair.index pair.array bit entries)
   pub none_below : (index array : ℕ) → index < pair.index → ¬ IsTrue (serves index array bit entries)
-  pub octet : pair.array < 2 ^ POSITIONS
-  pub hits : (place : ℕ) → place < POSITIONS → (bit_at pair.array place ≡ 1) ↔ IsTrue (list_any (sets pair.index place bit) entries)
+  pub octet : pair.array < 2 ^ position_count
+  pub hits : (place : ℕ) → place < position_count → (bit_at pair.array place ≡ 1) ↔ IsTrue (list_any (sets pair.index place bit) entries)
 
 -- no index serves, whatever the array
 abbrev pub NoneServes : (bit : ℕ) → List Entry → Type 0
-NoneServes bit entries = (index array : ℕ) → index < INDEXES → ¬ IsTrue (serves index array bit entries)
+NoneServes bit entries = (index array : ℕ) → index < index_count → ¬ IsTrue (serves index array bit entries)
 
 -- for each bit below `bits` some index serves with some array
 abbrev pub IsSeparable : (bits : ℕ) → List Entry → Type 0
-IsSeparable bits entries = (bit : ℕ) → bit < bits → (index : ℕ) × (array : ℕ) × (index < INDEXES) × IsTrue (serves index array bit entries)
+IsSeparable bits entries = (bit : ℕ) → bit < bits → (index : ℕ) × (array : ℕ) × (index < index_count) × IsTrue (serves index array bit entries)
 
 -- the array that has 1 exactly where an entry whose bit is 1 stands
 unfoldable pub array_of : (index bit : ℕ) → List Entry → ℕ
@@ -59,4 +59,4 @@ first_serving (suc count) index bit entries =
 
 -- the least pair, as a function: `IsLeast` holds of it, and it is `None` exactly where none serves
 unfoldable pub least_of : (bit : ℕ) → List Entry → Option Pair
-least_of bit entries = first_serving INDEXES 0 bit entries
+least_of bit entries = first_serving index_count 0 bit entries

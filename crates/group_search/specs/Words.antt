@@ -5,7 +5,8 @@ use Rattle.group_search.specs.declared.record.GroupRecord.{GroupRecord}
 use Rattle.group_search.specs.declared.record.GroupRecord.TheVariants as Record
 use Rattle.group_search.specs.declared.words.Packed.{Packed}
 use Rattle.group_search.specs.declared.words.Packed.TheVariants as Words
-use Rattle.group_search.specs.declared.limits.TheConstants.{MOST_BITS, FEWEST_ROWS, MOST_ROWS}
+use Rattle.flow_types.specs.Size.{most_value_bits}
+use Rattle.group_search.specs.Limits.{fewest_rows, most_rows}
 use Rattle.group_search.specs.Served.{zero_pair}
 
 -- a pair in 24 bits: the index in the lower 16, and the array above it
@@ -52,14 +53,14 @@ pub record IsPair (p : Pair) : Type 0 where
 pub record AreServedWords (bits : ℕ) (pairs : List Pair) (words : List ℕ) : Type 0 where
   pub one_each : length pairs ≡ bits
   pub enough : 1 ≤ bits
-  pub few : bits ≤ MOST_BITS
+  pub few : bits ≤ most_value_bits
   pub sized : All IsPair pairs
   pub spelled : words ≡ served_words pairs
 
 -- the words are those of so many rows
 pub record AreFallbackWords (rows : ℕ) (words : List ℕ) : Type 0 where
-  pub enough : FEWEST_ROWS ≤ rows
-  pub few : rows ≤ MOST_ROWS
+  pub enough : fewest_rows ≤ rows
+  pub few : rows ≤ most_rows
   pub spelled : words ≡ fallback_words rows
 
 -- a record with so many value bits, or with rows, packs to these words, and this is what they keep of it

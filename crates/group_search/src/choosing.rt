@@ -1,11 +1,15 @@
 ghost use Rattle.std.specs.Prelude.{◌≡◌, ◌<◌, ◌≤◌, ◌↔◌, IsTrue, IfOk, IfErr, IsErr, length};
 ghost use Rattle.std.specs.Result.{result_ok};
+ghost use Rattle.flow_types.specs.Map.{HaveDistinctKeys};
+ghost use Rattle.flow_types.specs.Size.{most_value_bits};
+ghost use Rattle.block_layout.specs.Limits.{most_keys};
+ghost use Rattle.group_search.specs.Limits.{most_rows};
+ghost use Rattle.group_search.specs.Rows.{entry_key};
 ghost use Rattle.group_search.specs.Serving.{IsSeparable};
-ghost use Rattle.group_search.specs.Rows.{HaveDistinctKeys};
-ghost use Rattle.group_search.specs.Canon.{IsCanonical, canonical, fallback, is_separable, least_pairs};
+ghost use Rattle.group_search.specs.Canon.{IsCanonical, canonical, is_separable, least_pairs};
 
 use crate::entry::{Entry, Pair};
-use crate::limits::{MOST_BITS, MOST_ENTRIES, MOST_ROWS};
+use crate::limits::{MOST_BITS, MOST_ROWS};
 use crate::record::GroupRecord;
 use crate::rows::Rows;
 use crate::search::least;
@@ -20,7 +24,7 @@ pub struct TooMany {
 
 /// Whether for each value bit below `bits` some index serves the entries.
 pub fn separable(entries: &[Entry], bits: u8) -> bool
-    requires { bits ≤ MOST_BITS }
+    requires { bits ≤ most_value_bits }
     ensures value { result ≡ is_separable bits entries.now }
     ensures separable { IsTrue result ↔ IsSeparable bits entries.now }
 {
@@ -36,12 +40,12 @@ pub fn separable(entries: &[Entry], bits: u8) -> bool
 /// with their keys and nodes by rising key.
 pub fn canon(entries: &[Entry], bits: u8) -> Result<GroupRecord, TooMany>
     requires enough_bits { 1 ≤ bits }
-    requires few_bits { bits ≤ MOST_BITS }
-    requires distinct { HaveDistinctKeys entries.now }
-    requires few { length entries.now ≤ MOST_ENTRIES }
+    requires few_bits { bits ≤ most_value_bits }
+    requires distinct { HaveDistinctKeys entry_key entries.now }
+    requires few { length entries.now ≤ most_keys }
     ensures value { result_ok result ≡ canonical bits entries.now }
     ensures canonical { IfOk result (IsCanonical bits entries.now) }
-    ensures too_many { IsErr result ↔ ((¬ IsSeparable bits entries.now) × (MOST_ROWS < length entries.now)) }
+    ensures too_many { IsErr result ↔ ((¬ IsSeparable bits entries.now) × (most_rows < length entries.now)) }
     ensures keys { IfErr result (λ e. e.keys ≡ length entries.now) }
 {
     if let Some(served) = serving_pairs(entries, bits) {
@@ -58,7 +62,7 @@ pub fn canon(entries: &[Entry], bits: u8) -> Result<GroupRecord, TooMany>
 /// The least pairs of the bits below `bits`, or `None` where a bit has none.
 fn serving_pairs(entries: &[Entry], bits: u8) -> Option<Served>
     requires enough_bits { 1 ≤ bits }
-    requires few_bits { bits ≤ MOST_BITS }
+    requires few_bits { bits ≤ most_value_bits }
     ensures { result ≡ least_pairs bits 0 entries.now }
 {
     let mut pairs = [Pair::default(); MOST_BITS];

@@ -1,9 +1,9 @@
 ghost use Rattle.std.specs.Prelude.{◌≡◌, ◌<◌, length};
 ghost use Rattle.std.specs.List.{slice_get};
-ghost use Rattle.block_layout.specs.declared.limits.TheConstants.{GROUPS};
+ghost use Rattle.block_layout.specs.Limits.{group_count};
 
 use crate::record::GroupRecord;
-use block_layout::{Choices, GROUPS};
+use block_layout::Choices;
 use std::alloc::AllocError;
 use std::marker::Model;
 
@@ -18,20 +18,20 @@ pub struct BlockImage {
 
 impl Model for BlockImage {
     ghost use Rattle.std.specs.Prelude.{◌≡◌, length};
-    ghost use Rattle.block_layout.specs.declared.limits.TheConstants.{GROUPS};
+    ghost use Rattle.block_layout.specs.Limits.{group_count};
     ghost use Rattle.group_search.specs.Image.{Image};
 
     ghost Value = { Image };
 
     ghost view = { λ b. record { choices = b.choices; records = b.records.items } };
 
-    ghost invariant = { λ b. length b.records.items ≡ GROUPS };
+    ghost invariant = { λ b. length b.records.items ≡ group_count };
 }
 
 impl BlockImage {
     /// The image of these choices and records, one record for each group.
     pub fn new(choices: Choices, records: Vec<GroupRecord>) -> BlockImage
-        requires { length records.items ≡ GROUPS }
+        requires { length records.items ≡ group_count }
         ensures { result ≡ record { choices = choices; records = records.items } }
     {
         BlockImage { choices, records }
@@ -46,7 +46,7 @@ impl BlockImage {
 
     /// The record of a group, below 64.
     pub fn record(&self, group: u8) -> &GroupRecord
-        requires { group < GROUPS }
+        requires { group < group_count }
         ensures { slice_get self.now.records group ≡ Some result.now }
     {
         &self.records[group as usize]

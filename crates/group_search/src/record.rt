@@ -1,9 +1,9 @@
 ghost use Rattle.std.specs.Prelude.{◌≡◌, ◌≤◌, length};
+ghost use Rattle.flow_types.specs.Size.{most_value_bits};
 ghost use Rattle.group_search.specs.Decoding.{decode, node_of, value_of};
 ghost use Rattle.group_search.specs.Canon.{rows_in};
 
 use crate::entry::Pair;
-use crate::limits::MOST_BITS;
 use crate::rows::{Row, Rows};
 use crate::served::Served;
 use flow_types::FlowKey;
@@ -53,7 +53,7 @@ impl GroupRecord {
 /// The number whose bit b is that of the b-th pair's array at the position that the pair gives a key with these
 /// hashes.
 pub(crate) fn value_at(pairs: &[Pair], hashes: HashPair) -> u8
-    requires { length pairs.now ≤ MOST_BITS }
+    requires { length pairs.now ≤ most_value_bits }
     ensures { result ≡ value_of hashes pairs.now }
 {
     let mut value = 0;

@@ -1,5 +1,7 @@
 ghost use Rattle.std.specs.Prelude.{◌≡◌, ◌≤◌, ◌↔◌, IsSome, IfSome, IsTrue, length};
-ghost use Rattle.group_search.specs.Rows.{AreRows, HaveDistinctKeys, IsRising, rows_of};
+ghost use Rattle.flow_types.specs.Map.{HaveDistinctKeys};
+ghost use Rattle.group_search.specs.Limits.{fewest_rows, most_rows};
+ghost use Rattle.group_search.specs.Rows.{AreRows, IsRising, rows_of, entry_key};
 
 use crate::entry::Entry;
 use crate::limits::{FEWEST_ROWS, MOST_ROWS};
@@ -7,7 +9,7 @@ use arrayvec::ArrayVec;
 use flow_types::FlowKey;
 use std::marker::Model;
 
-/// A key of a group that no indexes serve, with its handler.
+/// A fallback row: a key of a group that no indexes serve, with its handler.
 #[derive(Clone, Copy, Debug, PartialEq, Eq, Hash)]
 pub struct Row {
     /// The key.
@@ -16,7 +18,7 @@ pub struct Row {
     pub node: u8,
 }
 
-/// The rows of a group that no indexes serve: 2 to 64, by strictly rising key.
+/// The fallback rows of a group that no indexes serve: 2 to 64, by strictly rising key.
 #[derive(Clone, Debug, PartialEq, Eq, Drop)]
 pub struct Rows {
     rows: ArrayVec<Row, MOST_ROWS>,
@@ -52,9 +54,9 @@ impl Rows {
 
     /// The entries' keys and nodes.
     pub(crate) fn by_key(entries: &[Entry]) -> Rows
-        requires distinct { HaveDistinctKeys entries.now }
-        requires enough { FEWEST_ROWS ≤ length entries.now }
-        requires few { length entries.now ≤ MOST_ROWS }
+        requires distinct { HaveDistinctKeys entry_key entries.now }
+        requires enough { fewest_rows ≤ length entries.now }
+        requires few { length entries.now ≤ most_rows }
         ensures { result ≡ rows_of entries.now }
     {
         let mut rows = ArrayVec::new();

@@ -14,7 +14,7 @@ pub struct Served {
 impl Model for Served {
     ghost use Rattle.std.specs.Prelude.{List, length, take, ◌++◌, ◌-◌, replicate};
     ghost use Rattle.group_search.specs.declared.entry.Pair.{Pair};
-    ghost use Rattle.group_search.specs.declared.limits.TheConstants.{MOST_BITS};
+    ghost use Rattle.flow_types.specs.Size.{most_value_bits};
     ghost use Rattle.group_search.specs.Served.{IsServed, zero_pair};
 
     ghost Value = { List Pair };
@@ -25,7 +25,7 @@ impl Model for Served {
 
     ghost inverse = { λ pairs. record {
       bits = length pairs;
-      pairs = pairs ++ replicate (MOST_BITS - length pairs) zero_pair;
+      pairs = pairs ++ replicate (most_value_bits - length pairs) zero_pair;
     } };
 
     ghost use Rattle.group_search.specs.ServedFields.{same_fields};

@@ -1,10 +1,11 @@
 ghost use Rattle.std.specs.Prelude.{◌≡◌, ◌<◌, ◌≤◌, IfOk, vec_len};
-ghost use Rattle.group_search.specs.Rows.{HaveDistinctKeys};
+ghost use Rattle.flow_types.specs.Map.{HaveDistinctKeys};
+ghost use Rattle.group_search.specs.Rows.{entry_key};
 
 use crate::{
     Entry, GroupRecord, Packed, Pair, Row, Rows, Served, TooMany, canon, canonical_gives_each_node,
-    canonical_ignores_order, least, pack, row_of, row_words, separable, served_node, unpack,
-    words_spell_one_row,
+    canonical_ignores_order, least, least_plain, pack, row_of, row_words, separable, served_node,
+    the_limits_are, unpack, words_spell_one_row,
 };
 use flow_types::FlowKey;
 use hash_family::{HashPair, mix, position};
@@ -31,7 +32,7 @@ fn group(
     count: u8,
     one: Option<HashPair>,
 ) -> Result<Vec<Entry>, AllocError>
-    ensures { IfOk result (λ v. HaveDistinctKeys v.items × (vec_len v ≡ count)) }
+    ensures { IfOk result (λ v. HaveDistinctKeys entry_key v.items × (vec_len v ≡ count)) }
 {
     let mut entries = Vec::new(alloc);
     'keys: for made in 0..count {
@@ -107,6 +108,69 @@ fn least_is_the_first_of_a_plain_scan(rt: HostRuntime) -> Result<(), Fail> {
     Ok(())
 }
 
+/// So many entries with bit 1, and then others with bit 0, with drawn pairs.
+fn drawn(alloc: Global, ones: u16, zeros: u16) -> Result<Vec<Entry>, AllocError> {
+    let mut entries = Vec::new(alloc);
+    for made in 0..u32::from(ones) + u32::from(zeros) {
+        let drawn = mix(u64::from(made));
+        let pair = HashPair {
+            g1: (drawn >> 32) as u32,
+            g2: (drawn & 0xFFFF_FFFF) as u32,
+        };
+        let node = u8::from(made < u32::from(ones));
+        entries.push(Entry {
+            pair,
+            key: key(made, 0),
+            node,
+        })?;
+    }
+    Ok(entries)
+}
+
+#[test]
+fn least_is_that_of_the_plain_search(rt: HostRuntime) -> Result<(), Fail> {
+    for (ones, zeros) in [
+        (0, 0),
+        (1, 0),
+        (3, 4),
+        (8, 8),
+        (1, 39),
+        (39, 1),
+        (1, 64),
+        (1, 1535),
+    ] {
+        let entries = drawn(rt.alloc(), ones, zeros)?;
+        assert_eq!(rt;
+            least(&entries, 0),
+            least_plain(&entries, 0),
+            "{ones} and {zeros}"
+        );
+        assert_eq!(rt; least(&entries, 7), least_plain(&entries, 7), "bit 7");
+    }
+    Ok(())
+}
+
+/// All zeros stand at position 0, and the one leaves it at the last index, or never.
+#[test]
+fn least_comes_to_the_last_index(rt: HostRuntime) -> Result<(), Fail> {
+    let last = Pair {
+        index: 65_535,
+        array: 2,
+    };
+    for (step, found) in [(8192, Some(last)), (0, None)] {
+        for zeros in [1, 6, 15, 39, 64, 1535] {
+            let mut entries = drawn(rt.alloc(), 1, zeros)?;
+            for entry in entries.iter_mut() {
+                let step = if entry.node == 1 { step } else { 0 };
+                entry.pair = HashPair { g1: step, g2: step };
+            }
+            assert_eq!(rt; least(&entries, 0), found, "{zeros} zeros");
+            assert_eq!(rt; least_plain(&entries, 0), found, "{zeros} zeros");
+        }
+    }
+    Ok(())
+}
+
 #[test]
 fn finds_the_least_index(rt: HostRuntime) {
     let entry = |g2, node| Entry {
@@ -152,6 +216,7 @@ fn falls_back_to_rows(rt: HostRuntime) -> Result<(), Fail> {
 fn gives_each_key_its_node(rt: HostRuntime) -> Result<(), Fail> {
     canonical_gives_each_node();
     canonical_ignores_order();
+    the_limits_are();
     let entries = group(rt.alloc(), 7, 16, None)?;
     assert!(rt; separable(&entries, 4));
     let record = canon(&entries, 4).map_err(|_| "too many")?;

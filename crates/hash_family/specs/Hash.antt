@@ -5,7 +5,17 @@ use Rattle.flow_types.specs.declared.key.FlowKey.{FlowKey}
 use Rattle.flow_types.specs.Key.{number}
 use Rattle.hash_family.specs.declared.bucket.Place.{Place}
 use Rattle.hash_family.specs.declared.pairing.HashPair.{HashPair}
-use Rattle.hash_family.specs.declared.mixing.TheConstants.{SEED_STEP, FIRST_FACTOR, SECOND_FACTOR}
+
+-- 2^64 divided by the golden ratio, to the nearest odd number
+abbrev pub seed_step : ℕ
+seed_step = 0x9E3779B97F4A7C15
+
+-- the factors of SplitMix64's finalizer
+abbrev pub first_factor : ℕ
+first_factor = 0xBF58476D1CE4E5B9
+
+abbrev pub second_factor : ℕ
+second_factor = 0x94D049BB133111EB
 
 -- one step of mixing: the upper bits are folded down, and a product spreads them
 unfoldable pub stir : ℕ → ℕ → ℕ → ℕ
@@ -13,11 +23,11 @@ stir bits factor z = bit_xor z (z / 2 ^ bits) * factor % 2 ^ 64
 
 -- the finalizer of SplitMix64: two such steps, and one more fold
 unfoldable pub mix : ℕ → ℕ
-mix z = let stirred = stir 27 SECOND_FACTOR (stir 30 FIRST_FACTOR z) in bit_xor stirred (stirred / 2 ^ 31)
+mix z = let stirred = stir 27 second_factor (stir 30 first_factor z) in bit_xor stirred (stirred / 2 ^ 31)
 
 -- where the j-th base starts
 abbrev pub seed : ℕ → ℕ
-seed j = j * SEED_STEP % 2 ^ 64
+seed j = j * seed_step % 2 ^ 64
 
 -- the j-th base of the key of this number: its lower 64 bits under the seed, then its upper 40
 unfoldable pub base : ℕ → ℕ → ℕ

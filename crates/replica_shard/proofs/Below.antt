@@ -1,5 +1,5 @@
 -- A record of flows at so many nodes gives no key another node.
-use Rattle.std.proofs.Common.{◌≡◌, ℕ, zero, suc, ◌+◌, ◌==◌, ◌<◌, Bool, true, false, cond, List, [], ◌∷◌, length, map, Option, Some, None, refl, arith}
+use Rattle.std.proofs.Common.{◌≡◌, ℕ, suc, ◌==◌, ◌<◌, Bool, true, false, cond, List, [], ◌∷◌, length, Option, Some, None, arith}
 use Rattle.std.specs.Prelude.{All, find, nat_lt, nat_le, option_and_then, option_map}
 use Rattle.std.proofs.lemmas.List.Elements.{All-filter}
 use Rattle.std.proofs.lemmas.Bool.Decides.{nat_tests}
@@ -8,18 +8,17 @@ use Rattle.flow_types.specs.declared.record.Flow.{Flow}
 use Rattle.flow_types.specs.Key.{number}
 use Rattle.flow_types.specs.Size.{Size, value_bits}
 use Rattle.hash_family.specs.Hash.{pair}
-use Rattle.group_search.specs.declared.entry.Entry.{Entry}
 use Rattle.group_search.specs.declared.entry.Pair.{Pair}
 use Rattle.group_search.specs.declared.record.GroupRecord.{GroupRecord}
-use Rattle.group_search.specs.declared.record.GroupRecord.TheVariants.{Served, Fallback}
+use Rattle.group_search.specs.declared.record.GroupRecord.TheVariants.{Fallback}
 use Rattle.group_search.specs.declared.rows.Row.{Row}
-use Rattle.group_search.specs.declared.limits.TheConstants.{MOST_ROWS}
+use Rattle.group_search.specs.Limits.{most_rows}
 use Rattle.group_search.specs.Canon.{canonical, fallback, least_pairs, served_or}
-use Rattle.group_search.specs.Decoding.{below, decode, node_of, value_of}
+use Rattle.group_search.specs.Decoding.{as_node, decode, node_of, value_of}
 use Rattle.group_search.specs.Home.{home, is_home, opening}
 use Rattle.group_search.specs.Records.{AreHandled, content_of, entries, entry_of, record_of}
 use Rattle.group_search.specs.Rows.{key_number, put_row, row_of, rows_of}
-use Rattle.replica_shard.specs.Routed.{decoded, routed}
+use Rattle.replica_shard.specs.Routed.{routed}
 
 module _ (nodes : ℕ) where
   -- each row's node is one of them
@@ -52,7 +51,7 @@ module _ (nodes : ℕ) where
       by true later there = let same : row.node ≡ node = cc in let low = handled.0 in omega arith
       by false later there = later there
 
-  value_below : (value node : ℕ) → below nodes value ≡ Some node → node < nodes
+  value_below : (value node : ℕ) → as_node nodes value ≡ Some node → node < nodes
   value_below value node is = grind (arith, nat_tests)
 
   module _ (flows : List Flow) (handled : AreHandled nodes flows) (key : FlowKey) (node : ℕ) where
@@ -67,7 +66,7 @@ module _ (nodes : ℕ) where
     canonical_below : (pairs : Option (List Pair)) → gives (served_or pairs (fallback (entries flows))) ≡ Some node → node < nodes
     unfolding gives decode fallback
     canonical_below (Some pairs) is = value_below (value_of (pair key) pairs) node is
-    canonical_below None is = fallback_below (nat_le (length (entries flows)) MOST_ROWS) is
+    canonical_below None is = fallback_below (nat_le (length (entries flows)) most_rows) is
 
     content_below : gives (content_of nodes flows) ≡ Some node → node < nodes
     unfolding content_of canonical

@@ -8,18 +8,19 @@ use Rattle.std.proofs.Common.{get_or, sym}
 use Rattle.flow_types.specs.declared.key.FlowKey.{FlowKey}
 use Rattle.flow_types.specs.declared.record.Flow.{Flow}
 use Rattle.flow_types.specs.Size.{Size, IsShape}
+use Rattle.flow_types.specs.Map.{AreDistinct}
 use Rattle.hash_family.specs.Hash.{place}
 use Rattle.block_layout.specs.Candidate.{candidate}
-use Rattle.block_layout.specs.declared.limits.TheConstants.{GROUPS}
+use Rattle.block_layout.specs.Limits.{group_count}
 use Rattle.group_search.specs.Build.{IsBuild}
 use Rattle.group_search.specs.Home.{choices, group_of, home}
 use Rattle.group_search.specs.Image.{Image}
 use Rattle.group_search.specs.declared.record.GroupRecord.{GroupRecord}
 use Rattle.group_search.specs.declared.record.GroupRecord.TheVariants.{Fallback}
-use Rattle.group_search.specs.Records.{AreDistinct, AreHandled, record_of}
+use Rattle.group_search.specs.Records.{AreHandled, record_of}
 use Rattle.group_search.proofs.EachFlow.{routes_each_flow}
 use Rattle.replica_shard.specs.Routed.{decoded, routed}
-use Rattle.replica_shard.specs.Table.{AreImagesOf, IsOwned, IsTableOf, home_in, record_in}
+use Rattle.replica_shard.specs.Table.{AreImagesOf, IsOwned, IsTableOf, home_in, group_record_in}
 
 abbrev no_image : Image
 no_image = record { choices = []; records = [] }
@@ -30,7 +31,7 @@ no_record = Fallback []
 abbrev image_at : List Image → ℕ → Image
 image_at images block = slice_index_or images block no_image
 
-group_below : (bucket choice : ℕ) → candidate bucket choice < GROUPS
+group_below : (bucket choice : ℕ) → candidate bucket choice < group_count
 unfolding candidate
 group_below bucket choice = omega arith
 
@@ -60,7 +61,7 @@ home_there size flows owner images owned key some blocks build dealt owns =
     rw there (ap (λ (choices : List ℕ). Some (record { block = block; group = group_of choices (place size.blocks key).bucket })) chosen)
 
 record_there : (size : Size) (flows : List Flow) (owner : ℕ) (images owned : List Image) (key : FlowKey) → 1 ≤ size.nodes → 1 ≤ size.blocks → IsBuild size flows images
-    → AreImagesOf size.nodes owner images owned → IsOwned size owner key → record_in (record { size = size; owner = owner; images = owned }) key ≡ record_of size flows (home size.blocks flows key)
+    → AreImagesOf size.nodes owner images owned → IsOwned size owner key → group_record_in (record { size = size; owner = owner; images = owned }) key ≡ record_of size flows (home size.blocks flows key)
 unfolding home
 record_there size flows owner images owned key some blocks build dealt owns =
     let block = (place size.blocks key).block in
@@ -90,7 +91,7 @@ record_is size flows images key blocks build =
     let bucket = (place size.blocks key).bucket in
     let image = build.each block no_image (block_below size.blocks key blocks) in
     let group = group_of (choices size.blocks block flows) bucket in
-    let low : group < GROUPS = group_below bucket _ in
+    let low : group < group_count = group_below bucket _ in
     let one_each = image.one_each in
     let records = (image_at images block).records in
     let within : group < length records = omega arith in

@@ -1,29 +1,16 @@
 -- The blocks of one owner, copied one after the other.
-use Rattle.std.proofs.Common.{◌≡◌, ℕ, zero, suc, ◌+◌, ◌*◌, ◌<◌, ◌≤◌, inl, inr, List, [], ◌∷◌, ◌++◌, length, Some, sym, ◌∙◌, ap, refl, arith, length-append}
+use Rattle.std.proofs.Common.{◌≡◌, ℕ, ◌+◌, ◌*◌, ◌<◌, ◌≤◌, inl, inr, List, [], ◌∷◌, ◌++◌, length, Some, sym, ◌∙◌, ap, arith}
 use Rattle.std.specs.List.{slice_get}
 use Rattle.std.proofs.lemmas.Bool.{cases_lt}
 use Rattle.std.proofs.lemmas.Option.{slice_get_past}
 use Rattle.std.proofs.Math.Nat.{mul-le-mul_left}
+use Rattle.flow_types.proofs.Elements.{length_pushed, pushed_before, pushed_last}
 use Rattle.group_search.specs.Image.{Image}
 use Rattle.replica_shard.specs.Table.{AreImagesOf}
 
 -- these are the images of the owner's first blocks
 pub record AreFirstOf (nodes owner : ℕ) (all owned : List Image) : Type 0 where
   pub each : (i : ℕ) → i < length owned → slice_get owned i ≡ slice_get all (owner + nodes * i)
-
-pushed_before : (images : List Image) (image : Image) (i : ℕ) → i < length images → slice_get (images ++ image ∷ []) i ≡ slice_get images i
-pushed_before [] image i below = absurd (omega arith)
-pushed_before (first ∷ images) image zero below = refl
-pushed_before (first ∷ images) image (suc i) below = pushed_before images image i (omega arith)
-
-pushed_at : (images : List Image) (image : Image) (i : ℕ) → i ≡ length images → slice_get (images ++ image ∷ []) i ≡ Some image
-pushed_at [] image zero is = refl
-pushed_at [] image (suc i) is = absurd (omega arith)
-pushed_at (first ∷ images) image zero is = absurd (omega arith)
-pushed_at (first ∷ images) image (suc i) is = pushed_at images image i (omega arith)
-
-length_pushed : (images : List Image) (image : Image) → length (images ++ image ∷ []) ≡ length images + 1
-length_pushed images image = length-append images (image ∷ [])
 
 pub next_block : (nodes owner block : ℕ) (owned : List Image) (image : Image) → block ≡ owner + nodes * length owned → block + nodes ≡ owner + nodes * length (owned ++ image ∷ [])
 next_block nodes owner block owned image at = omega (arith, at, ap (λ (n : ℕ). nodes * n) (length_pushed owned image))
@@ -38,7 +25,7 @@ one_more nodes owner block all owned image first at is = record {
     | inl before ↦ pushed_before owned image i before ∙ first.each i before
     | inr past ↦
         let last : i ≡ length owned = omega (arith, length_pushed owned image) in
-        pushed_at owned image i last ∙ sym is ∙ ap (slice_get all) (at ∙ ap (λ (n : ℕ). owner + nodes * n) (sym last))
+        pushed_last owned image i last ∙ sym is ∙ ap (slice_get all) (at ∙ ap (λ (n : ℕ). owner + nodes * n) (sym last))
   ];
 }
 

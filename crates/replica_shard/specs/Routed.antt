@@ -3,12 +3,13 @@ use Rattle.std.specs.Prelude.{◌≡◌, ℕ, ◌<◌, List, All, Option, Some, 
 use Rattle.flow_types.specs.declared.key.FlowKey.{FlowKey}
 use Rattle.flow_types.specs.declared.record.Flow.{Flow}
 use Rattle.flow_types.specs.Size.{Size, IsShape}
+use Rattle.flow_types.specs.Map.{AreDistinct}
 use Rattle.group_search.specs.declared.record.GroupRecord.{GroupRecord}
 use Rattle.group_search.specs.Build.{IsBuild}
 use Rattle.group_search.specs.Decoding.{decode}
 use Rattle.group_search.specs.Home.{home}
 use Rattle.group_search.specs.Image.{Image}
-use Rattle.group_search.specs.Records.{AreDistinct, AreHandled, record_of}
+use Rattle.group_search.specs.Records.{AreHandled, record_of}
 
 -- the node that a record gives the key, where there is a record
 abbrev pub decoded : Size → FlowKey → Option GroupRecord → Option ℕ

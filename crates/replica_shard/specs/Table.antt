@@ -5,6 +5,7 @@ use Rattle.flow_types.specs.declared.key.FlowKey.{FlowKey}
 use Rattle.flow_types.specs.declared.record.Flow.{Flow}
 use Rattle.flow_types.specs.Size.{Size}
 use Rattle.hash_family.specs.Hash.{place}
+use Rattle.hash_family.specs.declared.bucket.Place.{Place}
 use Rattle.group_search.specs.declared.record.GroupRecord.{GroupRecord}
 use Rattle.group_search.specs.Home.{Home, group_of, home}
 use Rattle.group_search.specs.Image.{Image}
@@ -29,26 +30,30 @@ IsOwned size owner key = (place size.blocks key).block % size.nodes ≡ owner
 abbrev pub image_in : Table → (block : ℕ) → Option Image
 image_in table block = slice_get table.images (block / table.size.nodes)
 
--- the key's group in the image of its block
-abbrev pub group_in : Image → (blocks : ℕ) → FlowKey → ℕ
-group_in image blocks key = group_of image.choices (place blocks key).bucket
+-- the block of a place, and the group of its bucket there
+abbrev pub home_at : Table → Place → Option Home
+home_at table at = option_map (λ (image : Image). record { block = at.block; group = group_of image.choices at.bucket }) (image_in table at.block)
 
--- the key's block, and the group of its bucket there
+-- the record of the group of a place
+abbrev pub group_record_at : Table → Place → Option GroupRecord
+group_record_at table at = option_and_then (λ (image : Image). slice_get image.records (group_of image.choices at.bucket)) (image_in table at.block)
+
+-- the node that this record gives a key that stands at the place, if any
+abbrev pub node_at : Table → Place → FlowKey → Option ℕ
+node_at table at key = decoded table.size key (group_record_at table at)
+
+-- a key's home, its group's record, and the node that this gives it, where the key stands
 abbrev pub home_in : Table → FlowKey → Option Home
-home_in table key = option_map (λ (image : Image). record { block = (place table.size.blocks key).block; group = group_in image table.size.blocks key })
-    (image_in table (place table.size.blocks key).block)
+home_in table key = home_at table (place table.size.blocks key)
 
--- the record of the key's group
-abbrev pub record_in : Table → FlowKey → Option GroupRecord
-record_in table key = option_and_then (λ (image : Image). slice_get image.records (group_in image table.size.blocks key))
-    (image_in table (place table.size.blocks key).block)
+abbrev pub group_record_in : Table → FlowKey → Option GroupRecord
+group_record_in table key = group_record_at table (place table.size.blocks key)
 
--- the node that this record gives the key, if any
 abbrev pub node_in : Table → FlowKey → Option ℕ
-node_in table key = decoded table.size key (record_in table key)
+node_in table key = node_at table (place table.size.blocks key) key
 
 -- the table says of each key in the owner's blocks what the flows do: its home, the record there, and where it is sent
 pub record IsTableOf (size : Size) (flows : List Flow) (owner : ℕ) (table : Table) : Type 0 where
   pub homes : (key : FlowKey) → IsOwned size owner key → home_in table key ≡ Some (home size.blocks flows key)
-  pub records : (key : FlowKey) → IsOwned size owner key → record_in table key ≡ record_of size flows (home size.blocks flows key)
+  pub records : (key : FlowKey) → IsOwned size owner key → group_record_in table key ≡ record_of size flows (home size.blocks flows key)
   pub routes : (key : FlowKey) → IsOwned size owner key → node_in table key ≡ routed size flows key

@@ -4,7 +4,7 @@
 //! `specs/Table.antt` says what a table gives a key, and `specs/Routed.antt` where the flows of a cluster send it.
 //! Only `PlainShard::open` takes memory.
 //! Proved: each call's exact answer; that a shard of the images that a cluster's flows give sends each key where these
-//! flows do. Only tested: nothing.
+//! flows do. `open` may answer want of memory at any time. Only tested: that memory suffices.
 #![tactic(auto)]
 
 mod laws;

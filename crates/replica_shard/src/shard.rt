@@ -1,12 +1,12 @@
-ghost use Rattle.std.specs.Prelude.{◌≡◌, ◌<◌, ◌≤◌, ◌+◌, ◌*◌, IfOk, IsSome, List, length};
+ghost use Rattle.std.specs.Prelude.{◌≡◌, ◌<◌, ◌≤◌, ◌+◌, ◌*◌, ◌%◌, IfOk, IsSome, List, length};
 ghost use Rattle.flow_types.specs.declared.record.Flow.{Flow};
 ghost use Rattle.group_search.specs.Build.{IsBuild};
-ghost use Rattle.replica_shard.specs.Table.{AreImagesOf, IsOwned, IsTableOf, home_in, node_in, record_in};
+ghost use Rattle.replica_shard.specs.Table.{AreImagesOf, IsOwned, IsTableOf, group_record_at, group_record_in, home_in, node_at, node_in};
 
 use crate::routing::Route;
 use flow_types::{FlowKey, Shape};
 use group_search::BlockImage;
-use hash_family::place;
+use hash_family::{Place, place};
 use out_of_memory::OutOfMemory;
 use std::alloc::{AllocError, Global};
 use std::marker::Model;
@@ -63,12 +63,23 @@ impl PlainShard {
     pub fn route(&self, key: FlowKey) -> Route
         requires { IsOwned self.now.size self.now.owner key }
         ensures value { result ≡ record { version = 0; node = node_in self.now key } }
-        ensures there { IsSome (record_in self.now key) }
+        ensures there { IsSome (group_record_in self.now key) }
+    {
+        self.route_at(place(self.shape, key), key)
+    }
+
+    /// What `route` gives a key whose place is known.
+    ///
+    /// The place's block belongs to the owner.
+    pub fn route_at(&self, at: Place, key: FlowKey) -> Route
+        requires owned { at.block % self.now.size.nodes ≡ self.now.owner }
+        requires within { at.block < self.now.size.blocks }
+        ensures value { result ≡ record { version = 0; node = node_at self.now at key } }
+        ensures there { IsSome (group_record_at self.now at) }
     {
         let nodes = self.shape.nodes();
-        let place = place(self.shape, key);
-        let image = &self.images[usize::from(place.block / nodes)];
-        let content = image.record(image.choices().group(place.bucket));
+        let image = &self.images[usize::from(at.block / nodes)];
+        let content = image.record(image.choices().group(at.bucket));
         Route {
             version: 0,
             node: content.decode(nodes, key),

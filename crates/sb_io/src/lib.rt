@@ -5,7 +5,8 @@
 //! the sink failed, a proper prefix of them. A failure comes only where the count rose.
 //!
 //! Proved: the above, for every source and sink. `MemSource` and `MemSink` fail exactly at the calls that they
-//! are told to; `HonestSource` and `HonestSink` never fail. Trusted: what standard input and output give and take.
+//! are told to; `HonestSource` and `HonestSink` never fail. Trusted: what standard input and output give and take. Only
+//! tested: that memory suffices.
 #![tactic(auto)]
 
 mod failed;
@@ -18,6 +19,7 @@ mod reading;
 mod sink;
 mod source;
 mod std_stream;
+mod trying;
 mod writing;
 
 pub use failed::{Failed, WriteFault};

@@ -2,11 +2,11 @@ ghost use Rattle.std.specs.Prelude.{ℕ, None, ◌≡◌, ◌<◌, ◌≤◌, If
 ghost use Rattle.std.specs.Io.KnownBytes.{Appends, Keeps};
 ghost use Rattle.sb_io.specs.Faults.{next_count, Rose};
 
+use crate::trying::{read_uninterrupted, write_uninterrupted};
 use crate::{Failed, Sink, Source};
-use std::io::Read;
 use std::marker::Model;
 
-/// Standard input. It tells no octets, and counts each read that fails.
+/// Standard input. It tells no octets, and counts each read that fails. A read that a signal interrupts is made again.
 #[derive(Drop)]
 pub struct StdSource<R: Input> {
     reader: R::Reader,
@@ -44,7 +44,7 @@ impl<R: Input> Source for StdSource<R> {
         ensures fault { OnErr result (self.new ≡ next_count self.old) }
         ensures no_fault { OnOk result (self.new ≡ self.old) }
     {
-        match self.reader.read(into) {
+        match read_uninterrupted(&mut self.reader, into) {
             Ok(count) => Ok(count),
             Err(_) => {
                 self.faults = self.faults.saturating_add(1);
@@ -54,7 +54,8 @@ impl<R: Input> Source for StdSource<R> {
     }
 }
 
-/// Standard output. It tells no octets, and counts each write that fails or takes nothing of a piece.
+/// Standard output. It tells no octets, and counts each write that fails or takes nothing of a piece. A write that a
+/// signal interrupts is made again.
 #[derive(Drop)]
 pub struct StdSink<'a, P: Print> {
     to: &'a P,
@@ -93,7 +94,7 @@ impl<'a, P: Print> Sink for StdSink<'a, P> {
         ensures fault { OnErr result (self.new ≡ next_count self.old) }
         ensures no_fault { OnOk result (self.new ≡ self.old) }
     {
-        match self.to.write_some(piece) {
+        match write_uninterrupted(self.to, piece) {
             Ok(count) if count > 0 || piece.is_empty() => Ok(count),
             _ => {
                 self.faults = self.faults.saturating_add(1);

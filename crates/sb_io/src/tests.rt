@@ -1,4 +1,9 @@
+ghost use Rattle.std.specs.Prelude.{◌≤◌, IfOk, length};
+
 use super::*;
+use crate::trying::read_uninterrupted;
+use std::io;
+use std::io::{ErrorKind, Read};
 use std::test::Fail;
 
 /// A source's octets, the calls that fail, the limit, and what reading it all must give: the octets or the refusal.
@@ -75,6 +80,35 @@ fn standard_streams_work(rt: HostRuntime) -> Result<(), Fail> {
         Ok(())
     );
     Ok(())
+}
+
+/// A reader of sevens, whose first reads a signal interrupts, so many of them.
+#[derive(Drop)]
+struct Interrupted {
+    times: u8,
+}
+
+impl Read for Interrupted {
+    fn read(&mut self, into: &mut [u8]) -> io::Result<usize>
+        ensures bound { IfOk result (λ n. n ≤ length into.new) }
+    {
+        if self.times > 0 {
+            self.times -= 1;
+            return Err(io::Error::from(ErrorKind::Interrupted));
+        }
+        into.fill(7);
+        Ok(into.len())
+    }
+}
+
+#[test]
+fn reads_again_after_an_interruption(rt: HostRuntime) {
+    for times in [0, 1, 9] {
+        let mut reader = Interrupted { times };
+        let mut octets = [0; 3];
+        assert_eq!(rt; read_uninterrupted(&mut reader, &mut octets).ok(), Some(3));
+        assert_eq!(rt; octets, [7; 3], "after {times} interruptions");
+    }
 }
 
 #[test]

@@ -7,6 +7,8 @@
 //! standard error, and that memory suffices.
 #![tactic(auto)]
 
+#[cfg(test)]
+mod block_tests;
 mod refusal;
 mod running;
 mod status;

@@ -1,4 +1,5 @@
-ghost use Rattle.std.specs.Prelude.{◌≡◌};
+ghost use Rattle.std.specs.Prelude.{◌≡◌, MatchOption};
+ghost use Rattle.scalebricks.specs.Status.{Status, code, sentence};
 
 /// The most octets of input, in octets.
 pub const INPUT_LIMIT: u64 = 67_108_864;
@@ -18,8 +19,11 @@ pub const OUT_OF_MEMORY: u8 = 5;
 /// The input is longer than the limit.
 pub const TOO_LARGE: u8 = 6;
 
-/// The line for standard error, where a status has one.
-pub fn complaint(status: u8) -> Option<&'static str> {
+/// The sentence for standard error, where a status has one.
+pub fn complaint(status: u8) -> Option<&'static str>
+    ensures { (known : Status) → status ≡ code known →
+        MatchOption result (sentence known ≡ None) (λ line. sentence known ≡ Some line.now) }
+{
     match status {
         WORDS_REFUSED => Some("scalebricks: words refused"),
         READ_FAULT => Some("scalebricks: read fault"),

@@ -2,8 +2,7 @@ ghost use Rattle.std.specs.Prelude.{◌≢◌};
 
 use crate::run;
 use crate::status::{
-    DONE, INPUT_LIMIT, INPUT_REFUSED, OUT_OF_MEMORY, READ_FAULT, TOO_LARGE, WORDS_REFUSED,
-    WRITE_FAULT, complaint,
+    DONE, INPUT_LIMIT, INPUT_REFUSED, READ_FAULT, TOO_LARGE, WORDS_REFUSED, WRITE_FAULT,
 };
 use sb_io::{HonestSink, HonestSource, MemSink, MemSource, OpenGate};
 use std::alloc::Global;
@@ -16,7 +15,7 @@ const ROOM: usize = 1000;
 /// A row of input and the output, each line ended by a line feed.
 type Case<'a> = (&'a str, u8, &'a str);
 
-fn one_word(alloc: Global, word: &str) -> Result<Vec<String>, Fail> {
+pub fn one_word(alloc: Global, word: &str) -> Result<Vec<String>, Fail> {
     Ok(vec![in alloc; String::from_str(alloc, word)?]?)
 }
 
@@ -159,20 +158,4 @@ fn run_honestly<R: Threads + Wait>(
     ensures no_write_fault { result ≢ WRITE_FAULT }
 {
     run(rt, alloc, words, input, output, &OpenGate)
-}
-
-#[test]
-fn each_status_has_its_line(rt: HostRuntime) {
-    let lines = [
-        (DONE, None),
-        (INPUT_REFUSED, None),
-        (WORDS_REFUSED, Some("scalebricks: words refused")),
-        (READ_FAULT, Some("scalebricks: read fault")),
-        (WRITE_FAULT, Some("scalebricks: write fault")),
-        (OUT_OF_MEMORY, Some("scalebricks: out of memory")),
-        (TOO_LARGE, Some("scalebricks: input too large")),
-    ];
-    for (status, line) in lines {
-        assert_eq!(rt; complaint(status), line, "of status {status}");
-    }
 }

@@ -9,28 +9,29 @@ use Rattle.std.proofs.lemmas.List.FromFn.{get_or-map-range_with_len}
 use Rattle.flow_types.specs.declared.record.Flow.{Flow}
 use Rattle.flow_types.specs.Key.{number}
 use Rattle.flow_types.specs.Size.{Size, value_bits}
+use Rattle.flow_types.specs.Map.{AreDistinct, HaveDistinctKeys}
 use Rattle.hash_family.specs.Hash.{place}
 use Rattle.block_layout.specs.Dealing.{choices_of}
-use Rattle.block_layout.specs.declared.limits.TheConstants.{BUCKETS, GROUPS}
+use Rattle.block_layout.specs.Limits.{bucket_count, group_count}
 use Rattle.group_search.specs.Home.{choices, flows_of, group_of, home, is_home, is_in, is_in_bucket, opening, sizes}
-use Rattle.group_search.specs.Records.{AreDistinct, content_of, entries, entry_of, record_of}
+use Rattle.group_search.specs.Records.{content_of, entries, entry_of, record_of}
 use Rattle.group_search.specs.Build.{IsImage, needed, rows_needed}
 use Rattle.group_search.specs.Image.{Image}
 use Rattle.group_search.proofs.Mapped.{all_pairs_mapped}
 use Rattle.setsep_build.specs.declared.block.Placed.{Placed}
-use Rattle.setsep_build.specs.Placing.{AreApart, entry_in, gathered, groups_of, is_bucket, is_group, placed, placed_in, sizes_in}
-use Rattle.setsep_build.specs.Block.{IsImageOf, choices_in, needed_below, needed_in, record_at, needed_at}
+use Rattle.setsep_build.specs.Placing.{entry_in, gathered, groups_of, is_bucket, is_group, placed, placed_in, sizes_in, placed_key}
+use Rattle.setsep_build.specs.Block.{IsImageOf, block_choices, needed_below, needed_in, group_record, needed_at}
 use Rattle.setsep_build.proofs.Lists.{count_mapped, filter_both, filter_mapped, map_twice, same_map}
 use Rattle.setsep_build.proofs.MoreSpread.{nobody}
 
-bucket_below : (blocks : ℕ) (flow : Flow) → (place blocks flow.key).bucket < BUCKETS
+bucket_below : (blocks : ℕ) (flow : Flow) → (place blocks flow.key).bucket < bucket_count
 unfolding place
 bucket_below blocks flow = omega arith
 
 -- the group of a bucket, looked up
-group_at : (picks : List ℕ) (bucket : ℕ) → bucket < BUCKETS → slice_index (groups_of picks) bucket ≡ group_of picks bucket
+group_at : (picks : List ℕ) (bucket : ℕ) → bucket < bucket_count → slice_index (groups_of picks) bucket ≡ group_of picks bucket
 unfolding groups_of
-group_at picks bucket low = get_or-map-range_with_len (group_of picks) 0 BUCKETS bucket bucket 0 low (omega arith)
+group_at picks bucket low = get_or-map-range_with_len (group_of picks) 0 bucket_count bucket bucket 0 low (omega arith)
 
 module _ (blocks block : ℕ) (flows : List Flow) where
   pub same_length : length (placed_in blocks block flows) ≡ length (flows_of blocks block flows)
@@ -42,13 +43,13 @@ module _ (blocks block : ℕ) (flows : List Flow) where
   same_sizes =
       same_map (λ (bucket : ℕ). count_by (is_bucket bucket) (map (placed blocks) (flows_of blocks block flows)))
       (λ (bucket : ℕ). count_by (is_in_bucket blocks bucket) (flows_of blocks block flows))
-      (λ bucket. count_mapped (placed blocks) (is_bucket bucket) (flows_of blocks block flows)) (range_with_len 0 BUCKETS)
+      (λ bucket. count_mapped (placed blocks) (is_bucket bucket) (flows_of blocks block flows)) (range_with_len 0 bucket_count)
 
-  pub same_choices : choices_in (placed_in blocks block flows) ≡ choices blocks block flows
-  unfolding choices_in choices
+  pub same_choices : block_choices (placed_in blocks block flows) ≡ choices blocks block flows
+  unfolding block_choices choices
   same_choices = ap choices_of same_sizes
 
-  pub apart : AreDistinct flows → AreApart (placed_in blocks block flows)
+  pub apart : AreDistinct flows → HaveDistinctKeys placed_key (placed_in blocks block flows)
   unfolding placed_in flows_of
   apart distinct =
       all_pairs_mapped (λ (a : Placed) (b : Placed). number a.entry.key ≢ number b.entry.key) (placed blocks) nobody (filter (is_in blocks block) flows)
@@ -85,7 +86,7 @@ module _ (size : Size) (block : ℕ) (flows : List Flow) where
   all : List Placed
   all = placed_in size.blocks block flows
 
-  same_group : (group : ℕ) → gathered (groups_of (choices_in (placed_in size.blocks block flows))) group (placed_in size.blocks block flows)
+  same_group : (group : ℕ) → gathered (groups_of (block_choices (placed_in size.blocks block flows))) group (placed_in size.blocks block flows)
       ≡ entries (opening size.blocks flows (record { block = block; group = group }))
   same_group group = rw (same_choices size.blocks block flows) (same_entries size.blocks block flows group)
 
@@ -93,11 +94,11 @@ module _ (size : Size) (block : ℕ) (flows : List Flow) where
   unfolding needed_in needed_below needed
   same_needed =
       ap sum
-      (same_map (needed_at (value_bits size.nodes) (groups_of (choices_in (placed_in size.blocks block flows))) (placed_in size.blocks block flows))
+      (same_map (needed_at (value_bits size.nodes) (groups_of (block_choices (placed_in size.blocks block flows))) (placed_in size.blocks block flows))
       (λ (group : ℕ). rows_needed (value_bits size.nodes) (entries (opening size.blocks flows (record { block = block; group = group }))))
-      (λ group. ap (rows_needed (value_bits size.nodes)) (same_group group)) (range_with_len 0 GROUPS))
+      (λ group. ap (rows_needed (value_bits size.nodes)) (same_group group)) (range_with_len 0 group_count))
 
-  same_record : (group : ℕ) → record_at (value_bits size.nodes) (groups_of (choices_in (placed_in size.blocks block flows))) (placed_in size.blocks block flows) group
+  same_record : (group : ℕ) → group_record (value_bits size.nodes) (groups_of (block_choices (placed_in size.blocks block flows))) (placed_in size.blocks block flows) group
       ≡ record_of size flows (record { block = block; group = group })
   unfolding record_of content_of
   same_record group = rw (same_group group) refl

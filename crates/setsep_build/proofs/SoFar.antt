@@ -4,14 +4,14 @@ use Rattle.std.proofs.lemmas.Bool.{cases_eq}
 use Rattle.std.proofs.lemmas.List.{get_or_default, get_or_append_left, get_or_push}
 use Rattle.flow_types.specs.declared.record.Flow.{Flow}
 use Rattle.flow_types.specs.Size.{Size, value_bits}
-use Rattle.group_search.specs.Records.{AreDistinct}
+use Rattle.flow_types.specs.Map.{AreDistinct, HaveDistinctKeys}
 use Rattle.group_search.specs.Build.{IsBuild, IsImage, first_past_limit, past_limit}
 use Rattle.group_search.specs.Image.{Image}
 use Rattle.setsep_build.specs.declared.block.Placed.{Placed}
 use Rattle.setsep_build.specs.declared.refused.BuildRefused.{BuildRefused}
-use Rattle.setsep_build.specs.Placing.{AreApart, IsSpread, placed_in}
+use Rattle.setsep_build.specs.Placing.{IsSpread, placed_in, placed_key}
 use Rattle.setsep_build.specs.Block.{IsImageOf, RefusesBlock}
-use Rattle.setsep_build.specs.Refused.{Tells}
+use Rattle.setsep_build.specs.Refused.{Refuses}
 use Rattle.setsep_build.proofs.FirstPast.{image_within, past_none, refuses}
 use Rattle.setsep_build.proofs.Lifted.{apart, lifted_image}
 
@@ -45,11 +45,11 @@ module _ (size : Size) (flows : List Flow) (bits block : ℕ) (blocks : List (Li
   placed_are =
       placed_is ∙ read_is ∙ get_or_default blocks block read [] (omega (arith, spread.count)) ∙ spread.each block inside
 
-  pub block_apart : AreDistinct flows → AreApart placed
-  block_apart distinct = subst AreApart (sym placed_are) (apart size.blocks block flows distinct)
+  pub block_apart : AreDistinct flows → HaveDistinctKeys placed_key placed
+  block_apart distinct = subst (HaveDistinctKeys placed_key) (sym placed_are) (apart size.blocks block flows distinct)
 
   pub block_refused : (why : BuildRefused) → first_past_limit (size.blocks - block) block size flows ≡ past_limit size flows
-      → RefusesBlock bits block placed why → Tells (past_limit size flows) why
+      → RefusesBlock bits block placed why → Refuses size flows why
   block_refused why within is =
       let lifted : RefusesBlock (value_bits size.nodes) block (placed_in size.blocks block flows) why = rw (← bits_are, ← placed_are) is in
       refuses size flows block (size.blocks - block) (past_limit size flows) why (omega arith) within lifted

@@ -1,3 +1,4 @@
 pub mod Placing
-pub mod Block
 pub mod Refused
+pub mod Block
+pub mod Workers

@@ -1,5 +1,5 @@
 -- Why the flows of a cluster can't be built.
-use Rattle.std.specs.Prelude.{◌≡◌, List, Option, Some}
+use Rattle.std.specs.Prelude.{◌≡◌, List, Option, Some, None, IfSome}
 use Rattle.flow_types.specs.declared.record.Flow.{Flow}
 use Rattle.flow_types.specs.Size.{Size}
 use Rattle.group_search.specs.Build.{PastLimit, past_limit}
@@ -7,12 +7,12 @@ use Rattle.group_search.specs.Build.PastLimit.{TooManyFlows, TooManyRows}
 use Rattle.setsep_build.specs.declared.refused.BuildRefused.{BuildRefused}
 use Rattle.setsep_build.specs.declared.refused.BuildRefused.TheVariants.{BlockFull, RowsFull, OutOfMemory}
 
--- the cause for which the build is refused, where this is past a limit
-abbrev pub Tells : Option PastLimit → BuildRefused → Type 0
-Tells past (BlockFull block) = past ≡ Some (TooManyFlows block)
-Tells past (RowsFull block needed) = past ≡ Some (TooManyRows block needed)
-Tells past OutOfMemory = Unit {0}
+-- what is past its limit, as a refusal names it; nothing at want of memory
+abbrev pub named_limit : BuildRefused → Option PastLimit
+named_limit (BlockFull block) = Some (TooManyFlows block)
+named_limit (RowsFull block needed) = Some (TooManyRows block needed)
+named_limit OutOfMemory = None
 
 -- the build of the flows is refused for what the first block that is past a limit has too many of
 abbrev pub Refuses : Size → List Flow → BuildRefused → Type 0
-Refuses size flows why = Tells (past_limit size flows) why
+Refuses size flows why = IfSome (named_limit why) (λ past. past_limit size flows ≡ Some past)

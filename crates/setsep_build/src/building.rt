@@ -1,8 +1,11 @@
 ghost use Rattle.std.specs.Prelude.{◌≤◌, IfOk, IfErr};
+ghost use Rattle.flow_types.specs.Map.{AreDistinct};
 ghost use Rattle.group_search.specs.Build.{IsBuild};
-ghost use Rattle.group_search.specs.Records.{AreDistinct, AreHandled};
+ghost use Rattle.group_search.specs.Records.{AreHandled};
 ghost use Rattle.setsep_build.specs.Refused.{Refuses};
+ghost use Rattle.setsep_build.specs.Workers.{most_workers};
 
+use crate::groups::Groups;
 use crate::imaging::image_of;
 use crate::refused::BuildRefused;
 use crate::spreading::spread;
@@ -26,7 +29,7 @@ pub fn build<R: Threads>(
     requires distinct { AreDistinct flows.now }
     requires handled { AreHandled shape.nodes flows.now }
     requires some_worker { 1 ≤ workers }
-    requires few_workers { workers ≤ MOST_WORKERS }
+    requires few_workers { workers ≤ most_workers }
     ensures built { IfOk result (λ images. IsBuild shape flows.now images.items) }
     ensures refused { IfErr result (λ why. Refuses shape flows.now why) }
 {
@@ -35,7 +38,7 @@ pub fn build<R: Threads>(
     let blocks = spread(alloc, shape, flows)?;
     let bits = shape.value_bits();
     let mut images = Vec::with_capacity(alloc, blocks.len())?;
-    let mut room = Vec::new(alloc);
+    let mut room = Groups::new(alloc)?;
     'images: for block in 0..shape.blocks() {
         let placed = blocks[block as usize].as_slice();
         images.push(image_of(alloc, bits, block, placed, &mut room)?)?;

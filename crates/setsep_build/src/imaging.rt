@@ -1,15 +1,17 @@
 ghost use Rattle.std.specs.Prelude.{◌≤◌, IfOk, IfErr};
-ghost use Rattle.group_search.specs.declared.limits.TheConstants.{MOST_BITS};
+ghost use Rattle.flow_types.specs.Map.{HaveDistinctKeys};
+ghost use Rattle.setsep_build.specs.Placing.{placed_key};
+ghost use Rattle.flow_types.specs.Size.{most_value_bits};
 ghost use Rattle.setsep_build.specs.Block.{IsImageOf, RefusesBlock};
-ghost use Rattle.setsep_build.specs.Placing.{AreApart};
 
 use crate::block::Placed;
 use crate::gathering::groups_of;
+use crate::groups::Groups;
 use crate::records::records_of;
 use crate::refused::BuildRefused;
 use crate::sizing::bucket_sizes;
 use block_layout::choose;
-use group_search::{BlockImage, Entry, MOST_ENTRIES, MOST_ROWS};
+use group_search::{BlockImage, MOST_ENTRIES, MOST_ROWS};
 use std::alloc::Global;
 
 /// The image of a block with these flows.
@@ -18,11 +20,11 @@ pub fn image_of(
     bits: u8,
     block: u16,
     placed: &[Placed],
-    room: &mut Vec<Entry>,
+    room: &mut Groups,
 ) -> Result<BlockImage, BuildRefused>
     requires enough_bits { 1 ≤ bits }
-    requires few_bits { bits ≤ MOST_BITS }
-    requires apart { AreApart placed.now }
+    requires few_bits { bits ≤ most_value_bits }
+    requires apart { HaveDistinctKeys placed_key placed.now }
     ensures image { IfOk result (λ image. IsImageOf bits placed.now image) }
     ensures refused { IfErr result (λ why. RefusesBlock bits block placed.now why) }
 {

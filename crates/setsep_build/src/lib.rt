@@ -1,7 +1,7 @@
 //! The keyless table of a cluster's flows: an image for each block, or the first block that is past a limit.
 //!
 //! A contract sees what the build is by `specs/Build.antt` of `group_search`. The flows are spread over their blocks,
-//! each block is laid out, and each of its groups gets its canonical record.
+//! each block is laid out and its entries are gathered by group in one pass, and each group gets its canonical record.
 //! Proved: the images and the refusals, exactly; only `OutOfMemory` may come at any time. Only tested: that memory
 //! suffices.
 #![tactic(auto)]
@@ -9,7 +9,9 @@
 mod block;
 mod building;
 mod gathering;
+mod groups;
 mod imaging;
+mod laws;
 mod records;
 mod refused;
 mod sizing;
@@ -18,4 +20,5 @@ mod spreading;
 mod tests;
 
 pub use building::{MOST_WORKERS, build};
+pub use laws::the_limits_are;
 pub use refused::BuildRefused;

@@ -1,14 +1,15 @@
-ghost use Rattle.std.specs.Prelude.{◌≡◌, ◌<◌, ◌≤◌, ◌+◌, ◌++◌, ◌^◌, OnOk, IfOk, length, option_to_list};
+ghost use Rattle.std.specs.Prelude.{ℕ, ◌≡◌, ◌<◌, ◌≤◌, ◌+◌, ◌++◌, ◌^◌, OnOk, IfOk, All, length, option_to_list};
+ghost use Rattle.flow_types.specs.Map.{HaveDistinctKeys};
+ghost use Rattle.setsep_build.specs.Placing.{placed_key};
+ghost use Rattle.group_search.specs.Rows.{entry_key};
 ghost use Rattle.group_search.specs.Build.{rows_needed};
 ghost use Rattle.group_search.specs.Canon.{canonical};
-ghost use Rattle.group_search.specs.Rows.{HaveDistinctKeys};
-ghost use Rattle.group_search.specs.declared.limits.TheConstants.{MOST_BITS, MOST_ENTRIES};
-ghost use Rattle.block_layout.specs.declared.limits.TheConstants.{GROUPS};
+ghost use Rattle.flow_types.specs.Size.{most_value_bits};
+ghost use Rattle.block_layout.specs.Limits.{most_keys, group_count};
 ghost use Rattle.setsep_build.specs.Block.{needed_below, records_below};
-ghost use Rattle.setsep_build.specs.Placing.{AreApart};
 
 use crate::block::Placed;
-use crate::gathering::gather;
+use crate::groups::Groups;
 use block_layout::{BUCKETS, GROUPS};
 use group_search::{Entry, GroupRecord, canon};
 use std::alloc::{AllocError, Global};
@@ -26,9 +27,9 @@ impl Records {
     /// Adds the record of a group with these entries, where it has one, and the rows that it needs.
     fn add(&mut self, bits: u8, entries: &[Entry]) -> Result<(), AllocError>
         requires enough_bits { 1 ≤ bits }
-        requires few_bits { bits ≤ MOST_BITS }
-        requires distinct { HaveDistinctKeys entries.now }
-        requires few { length entries.now ≤ MOST_ENTRIES }
+        requires few_bits { bits ≤ most_value_bits }
+        requires distinct { HaveDistinctKeys entry_key entries.now }
+        requires few { length entries.now ≤ most_keys }
         requires room { self.old.needed < 2 ^ 31 }
         ensures kept { OnOk result (self.new.kept.items ≡ self.old.kept.items ++ option_to_list (canonical bits entries.now)) }
         ensures needed { OnOk result (self.new.needed ≡ self.old.needed + rows_needed bits entries.now) }
@@ -46,28 +47,29 @@ impl Records {
 
 /// The records of all groups of a block with these flows.
 ///
-/// The room is for the entries of one group at a time.
+/// The room is for the entries of each group.
 pub fn records_of(
     alloc: Global,
     bits: u8,
     placed: &[Placed],
     groups: &[u8; BUCKETS],
-    room: &mut Vec<Entry>,
+    room: &mut Groups,
 ) -> Result<Records, AllocError>
     requires enough_bits { 1 ≤ bits }
-    requires few_bits { bits ≤ MOST_BITS }
-    requires apart { AreApart placed.now }
-    requires few { length placed.now ≤ MOST_ENTRIES }
-    ensures kept { IfOk result (λ records. records.kept.items ≡ records_below GROUPS bits groups.now placed.now) }
-    ensures needed { IfOk result (λ records. records.needed ≡ needed_below GROUPS bits groups.now placed.now) }
+    requires few_bits { bits ≤ most_value_bits }
+    requires apart { HaveDistinctKeys placed_key placed.now }
+    requires few { length placed.now ≤ most_keys }
+    requires known { All (λ (group : ℕ). group < group_count) groups.now }
+    ensures kept { IfOk result (λ records. records.kept.items ≡ records_below group_count bits groups.now placed.now) }
+    ensures needed { IfOk result (λ records. records.needed ≡ needed_below group_count bits groups.now placed.now) }
 {
     let mut records = Records {
         kept: Vec::with_capacity(alloc, GROUPS as usize)?,
         needed: 0,
     };
+    room.gather(placed, groups)?;
     'groups: for group in 0..GROUPS {
-        gather(room, placed, groups, group)?;
-        records.add(bits, room.as_slice())?;
+        records.add(bits, room.entries(group))?;
     }
     Ok(records)
 }

@@ -1,13 +1,13 @@
 ghost use Rattle.std.specs.Prelude.{◌≡◌, ◌≤◌, length, sum};
 ghost use Rattle.setsep_build.specs.Placing.{sizes_in};
-ghost use Rattle.group_search.specs.declared.limits.TheConstants.{MOST_ENTRIES};
+ghost use Rattle.block_layout.specs.Limits.{most_keys};
 
 use crate::block::Placed;
 use block_layout::BUCKETS;
 
 /// How many of a block's flows each bucket has.
 pub fn bucket_sizes(placed: &[Placed]) -> [u16; BUCKETS]
-    requires { length placed.now ≤ MOST_ENTRIES }
+    requires { length placed.now ≤ most_keys }
     ensures each { result ≡ sizes_in placed.now }
     ensures total { sum result ≡ length placed.now }
 {

@@ -1,7 +1,8 @@
 ghost use Rattle.std.specs.Prelude.{◌≤◌, IfOk};
-ghost use Rattle.group_search.specs.Records.{AreDistinct, AreHandled};
+ghost use Rattle.flow_types.specs.Map.{AreDistinct};
+ghost use Rattle.group_search.specs.Records.{AreHandled};
 
-use crate::{BuildRefused, build};
+use crate::{BuildRefused, build, the_limits_are};
 use block_layout::GROUPS;
 use flow_types::{Flow, FlowKey, Record, Shape};
 use group_search::{BlockImage, GroupRecord, Pair};
@@ -9,13 +10,14 @@ use hash_family::place;
 use std::alloc::{AllocError, Global};
 use std::test::Fail;
 
-/// Flows with ports from 0 up, so many of them, at nodes 0 to `nodes - 1` in turn; where a bucket is given, those of
-/// that bucket alone.
+/// Flows with ports from 0 up, so many of them, at nodes 0 to `nodes - 1` in turn; those of one block, and where a bucket
+/// is given, those of that bucket alone.
 fn flows(
     alloc: Global,
     shape: Shape,
     count: usize,
     nodes: u8,
+    block: Option<u16>,
     bucket: Option<u8>,
 ) -> Result<Vec<Flow>, AllocError>
     requires some { 1 ≤ nodes }
@@ -32,10 +34,9 @@ fn flows(
             destination_port: 0,
             protocol: 6,
         };
-        let wanted = match bucket {
-            Some(bucket) => place(shape, key).bucket == bucket,
-            None => true,
-        };
+        let at = place(shape, key);
+        let wanted = is_or_any(block, at.block)
+            && is_or_any(bucket.map(u16::from), u16::from(at.bucket));
         if wanted && made.len() < count {
             let info = Record { teid: 0, base: 0 };
             let node = (made.len() % nodes as usize) as u8;
@@ -43,6 +44,14 @@ fn flows(
         }
     }
     Ok(made)
+}
+
+/// Whether this is the number that is wanted, if one is.
+fn is_or_any(wanted: Option<u16>, number: u16) -> bool {
+    match wanted {
+        Some(wanted) => wanted == number,
+        None => true,
+    }
 }
 
 /// The node that the images give a key.
@@ -57,8 +66,9 @@ fn routed(images: &[BlockImage], shape: Shape, key: FlowKey) -> Option<u8> {
 #[test]
 fn gives_each_flow_its_handler(rt: HostRuntime) -> Result<(), Fail> {
     let alloc = rt.alloc();
+    the_limits_are();
     let shape = Shape::new(16, 3).ok_or("16 nodes and 3 blocks")?;
-    let flows = flows(alloc, shape, 3_000, 16, None)?;
+    let flows = flows(alloc, shape, 3_000, 16, None, None)?;
     assert_eq!(rt; flows.len(), 3_000);
     let images = build(&rt, alloc, shape, flows.as_slice(), 1)?;
     assert_eq!(rt; images.len(), 3);
@@ -79,7 +89,7 @@ fn gives_each_flow_its_handler(rt: HostRuntime) -> Result<(), Fail> {
 fn takes_1536_flows_of_a_block_and_no_more(rt: HostRuntime) -> Result<(), Fail> {
     let alloc = rt.alloc();
     let shape = Shape::new(4, 1).ok_or("4 nodes and a block")?;
-    let most = flows(alloc, shape, 1_536, 1, None)?;
+    let most = flows(alloc, shape, 1_536, 1, None, None)?;
     assert_eq!(rt; most.len(), 1_536);
     let images = build(&rt, alloc, shape, most.as_slice(), 7)?;
     assert_eq!(rt; images.len(), 1);
@@ -96,7 +106,7 @@ fn takes_1536_flows_of_a_block_and_no_more(rt: HostRuntime) -> Result<(), Fail> 
             GroupRecord::Fallback(_) => return Err("a group at one node needs no rows".into()),
         }
     }
-    let more = flows(alloc, shape, 1_537, 1, None)?;
+    let more = flows(alloc, shape, 1_537, 1, None, None)?;
     assert_eq!(rt; more.len(), 1_537);
     assert_eq!(rt;
         build(&rt, alloc, shape, more.as_slice(), 1).err(),
@@ -109,7 +119,7 @@ fn takes_1536_flows_of_a_block_and_no_more(rt: HostRuntime) -> Result<(), Fail> 
 fn takes_64_rows_of_a_block_and_no_more(rt: HostRuntime) -> Result<(), Fail> {
     let alloc = rt.alloc();
     let shape = Shape::new(2, 1).ok_or("2 nodes and a block")?;
-    let most = flows(alloc, shape, 64, 2, Some(9))?;
+    let most = flows(alloc, shape, 64, 2, None, Some(9))?;
     assert_eq!(rt; most.len(), 64);
     let images = build(&rt, alloc, shape, most.as_slice(), 1)?;
     assert_eq!(rt; images.len(), 1);
@@ -118,7 +128,7 @@ fn takes_64_rows_of_a_block_and_no_more(rt: HostRuntime) -> Result<(), Fail> {
     for flow in &most {
         assert_eq!(rt; routed(images.as_slice(), shape, flow.key), Some(flow.node));
     }
-    let more = flows(alloc, shape, 65, 2, Some(9))?;
+    let more = flows(alloc, shape, 65, 2, None, Some(9))?;
     assert_eq!(rt; more.len(), 65);
     assert_eq!(rt;
         build(&rt, alloc, shape, more.as_slice(), 1).err(),
@@ -127,5 +137,46 @@ fn takes_64_rows_of_a_block_and_no_more(rt: HostRuntime) -> Result<(), Fail> {
             needed: 65
         })
     );
+    Ok(())
+}
+
+#[test]
+fn names_the_block_that_is_past_a_limit(rt: HostRuntime) -> Result<(), Fail> {
+    let alloc = rt.alloc();
+    let shape = Shape::new(16, 3).ok_or("16 nodes and 3 blocks")?;
+    for block in [0, 1, 2] {
+        let many = flows(alloc, shape, 1_537, 16, Some(block), None)?;
+        assert_eq!(rt; many.len(), 1_537, "block {block}");
+        assert_eq!(rt;
+            build(&rt, alloc, shape, many.as_slice(), 1).err(),
+            Some(BuildRefused::BlockFull { block })
+        );
+        let of_a_bucket = flows(alloc, shape, 65, 16, Some(block), Some(9))?;
+        assert_eq!(rt; of_a_bucket.len(), 65, "block {block}");
+        assert_eq!(rt;
+            build(&rt, alloc, shape, of_a_bucket.as_slice(), 1).err(),
+            Some(BuildRefused::RowsFull { block, needed: 65 })
+        );
+    }
+    Ok(())
+}
+
+#[test]
+fn builds_a_table_of_no_flows(rt: HostRuntime) -> Result<(), Fail> {
+    let alloc = rt.alloc();
+    let shape = Shape::new(16, 256).ok_or("16 nodes and 256 blocks")?;
+    let images = build(&rt, alloc, shape, &[], 1)?;
+    assert_eq!(rt; images.len(), 256);
+    for image in &images {
+        for group in 0..GROUPS {
+            match image.record(group) {
+                GroupRecord::Served(served) => {
+                    assert_eq!(rt; served.bits, 4);
+                    assert_eq!(rt; served.pairs, [Pair { index: 0, array: 0 }; 4]);
+                }
+                GroupRecord::Fallback(_) => return Err("a group without keys needs no rows".into()),
+            }
+        }
+    }
     Ok(())
 }

@@ -1,5 +1,5 @@
-use Rattle.std.proofs.Common.{◌≡◌, [], ◌∷◌, ◌++◌, sym, ap, ◌∙◌, arith, rules}
-use Rattle.cluster_replay.proofs.Flows.{replied, all_replied}
+use Rattle.std.proofs.Common.{◌≡◌, [], ◌∷◌, ◌++◌, ◌∙◌, arith, rules}
+use Rattle.cluster_replay.proofs.Replied.{replied, all_replied}
 use Rattle.cluster_replay.proofs.answering.replies.Goals as goal
 
 pub events-preserved : goal.events-preserved

@@ -1,6 +1,6 @@
 -- The replies so far and those to the events that are left are the replies to all.
-use Rattle.std.proofs.Common.{◌≡◌, ◌++◌, drop, map}
-use Rattle.cluster_replay.specs.Replies.{reply_to, replayed}
+use Rattle.std.proofs.Common.{◌≡◌, ◌++◌, drop}
+use Rattle.cluster_replay.specs.Replies.{replayed}
 use Rattle.cluster_replay.proofs.answering.replies.Given as goal
 
 abbrev pub invariant-events : goal.invariant-events

@@ -1,7 +1,7 @@
-use Rattle.std.proofs.Common.{◌≡◌, [], ◌∷◌, ◌++◌, ℕ, length, sym, subst, arith, rules, length-append}
+use Rattle.std.proofs.Common.{◌≡◌, [], ◌∷◌, ◌++◌, ℕ, sym, subst, arith, rules, length-append}
 use Rattle.cluster_replay.specs.Cluster.{IsNode}
 use Rattle.cluster_replay.specs.declared.node.Node.{Node}
-use Rattle.cluster_replay.proofs.Pushed.{each_pushed}
+use Rattle.flow_types.proofs.Elements.{each_pushed}
 use Rattle.cluster_replay.proofs.cluster.nodes.Goals as goal
 
 pub numbers-preserved : goal.numbers-preserved

@@ -1,7 +1,7 @@
-use Rattle.std.proofs.Common.{◌≡◌, [], ◌∷◌, ◌++◌, ℕ, length, sym, subst, ◌∙◌, arith, rules, length-append}
+use Rattle.std.proofs.Common.{◌≡◌, [], ◌∷◌, ◌++◌, ℕ, sym, subst, arith, rules, length-append}
 use Rattle.replica_shard.specs.Table.{Table}
 use Rattle.cluster_replay.specs.Tables.{IsShard}
-use Rattle.cluster_replay.proofs.Pushed.{each_pushed}
+use Rattle.flow_types.proofs.Elements.{each_pushed}
 use Rattle.cluster_replay.proofs.node.shards.Goals as goal
 
 pub owners-preserved : goal.owners-preserved

@@ -1,4 +1,4 @@
-use Rattle.cluster_replay.proofs.Lines.{text_more, text_end}
+use Rattle.cluster_replay.proofs.LineByLine.{text_more, text_end}
 use Rattle.cluster_replay.proofs.reporting.write_lines.Goals as goal
 
 pub events-preserved : goal.events-preserved

@@ -1,7 +1,7 @@
 use Rattle.std.proofs.Common.{◌≡◌, ◌≤◌, Some, All, drop, take, ap, sym, ◌∙◌, arith, subst}
 use Rattle.std.proofs.lemmas.Bool.{not-false}
 use Rattle.std.proofs.lemmas.Slice.Eq.{bytes_eq-Decides}
-use Rattle.group_search.specs.declared.limits.TheConstants.{MOST_BITS}
+use Rattle.flow_types.specs.Size.{most_value_bits}
 use Rattle.group_search.specs.Served.{zero_pair}
 use Rattle.group_search.specs.Words.{AreServedWords, served_words}
 use Rattle.group_search.proofs.WordLemmas.{pairs_there, rest_is_zero, rest_of, served_there, spelled_again, taken_are, words_there}
@@ -30,7 +30,7 @@ rest c =
     let seen = rest_of _ _ _ c.args.words c.from-2.ensures c.pairs_of-pairs.ensures in
     subst (All (λ p. p ≡ zero_pair)) seen (c.are_zero.ensures.0 c.if-not-are_zero.false)
 
-few : (c : goal.Else-ne) → c.args.bits ≤ MOST_BITS
+few : (c : goal.Else-ne) → c.args.bits ≤ most_value_bits
 few c = omega (arith, c.from.ensures, c.if-from-gt-MOST_BITS.false)
 
 enough : (c : goal.Else-ne) → 1 ≤ c.args.bits

@@ -2,7 +2,8 @@ use Rattle.std.proofs.Common.{◌*◌, ◌^◌, ◌<◌}
 use Rattle.std.specs.Prelude.{All}
 use Rattle.flow_types.specs.declared.record.Flow.{Flow}
 use Rattle.flow_types.specs.Key.{number}
-use Rattle.group_search.specs.Records.{AreDistinct, AreHandled}
+use Rattle.flow_types.specs.Map.{AreDistinct}
+use Rattle.group_search.specs.Records.{AreHandled}
 use Rattle.setsep_build.proofs.tests.flows.Given as goal
 
 abbrev pub invariant-ports : goal.invariant-ports

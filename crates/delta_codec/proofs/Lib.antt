@@ -1,0 +1,13 @@
+pub mod Standing
+pub mod Keys
+pub mod Faults
+pub mod Lengths
+pub mod Loops
+pub mod RowsFit
+pub mod Begins
+pub mod Scan
+pub mod InARow
+pub mod Sound
+pub mod Same
+pub mod Prefixes
+pub mod Decoded

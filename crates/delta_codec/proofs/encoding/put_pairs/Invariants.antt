@@ -1,0 +1,11 @@
+use Rattle.std.proofs.Common.{◌≡◌, ◌+◌, ◌*◌, ◌++◌, take}
+use Rattle.std.specs.List.{flat_map}
+use Rattle.arrayvec.specs.ArrayVec.{array_vec_len}
+use Rattle.delta_codec.specs.Spelling.{pair_octets}
+use Rattle.delta_codec.proofs.encoding.put_pairs.Given as goal
+
+-- the octets of the pairs passed so far
+abbrev pub invariant-pairs : goal.invariant-pairs
+invariant-pairs l =
+    (l.octets.items ≡ l.fn.octets.items ++ flat_map pair_octets (take l.pair-index l.pairs))
+    × (array_vec_len l.octets ≡ array_vec_len l.fn.octets + 3 * l.pair-index)

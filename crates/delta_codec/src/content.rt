@@ -1,0 +1,189 @@
+//! The body of a table message: a group's record.
+
+ghost use Rattle.std.specs.Prelude.{◌≡◌, ◌+◌, ◌*◌, ◌≤◌, [], ◌∷◌, All, IfOk, None, length, option_map};
+ghost use Rattle.std.specs.List.{flat_map};
+ghost use Rattle.std.specs.Result.{result_err};
+ghost use Rattle.flow_types.specs.Key.{number};
+ghost use Rattle.flow_types.specs.Size.{value_bits};
+ghost use Rattle.group_search.specs.Words.{IsPair};
+ghost use Rattle.delta_codec.specs.Values.{IsContent, IsKey};
+ghost use Rattle.delta_codec.specs.Fits.{ContentFits, RowsFit};
+ghost use Rattle.delta_codec.specs.Spelling.{Stand, content_octets, pair_octets, row_octets};
+ghost use Rattle.delta_codec.specs.Fields.{content_fields, count_field, fault_of, first_fault, key_at, octet_at, pair_fields, row_fields};
+ghost use Rattle.delta_codec.specs.Fields as fields;
+
+use crate::reading::{take_key, take_octet, take_two};
+use crate::refused::{BadField, DecodeRefused};
+use arrayvec::ArrayVec;
+use flow_types::{FlowKey, Shape};
+use group_search::{GroupRecord, MOST_BITS, MOST_ROWS, Pair, Row, Rows, Served};
+
+/// The record that stands at a place, and the place after it.
+pub(crate) fn read_content(
+    shape: Shape,
+    bytes: &[u8],
+    at: usize,
+) -> Result<(GroupRecord, usize), DecodeRefused>
+    requires { at ≤ length bytes.now }
+    ensures stands { IfOk result (λ read. Stand bytes.now at (content_octets read.0)) }
+    ensures end { IfOk result (λ read. read.1 ≡ at + length (content_octets read.0)) }
+    ensures fits { IfOk result (λ read. ContentFits shape read.0) }
+    ensures sized { IfOk result (λ read. IsContent read.0) }
+    ensures fault { result_err result ≡ first_fault bytes.now (content_fields shape bytes.now at) }
+{
+    match take_octet(bytes, at)? {
+        0 => {
+            let (served, end) = read_pairs(shape, bytes, at + 1)?;
+            Ok((GroupRecord::Served(served), end))
+        }
+        1 => {
+            let count = read_count(bytes, at + 1)?;
+            let (rows, end) = read_rows(shape, count, bytes, at + 2)?;
+            Ok((GroupRecord::Fallback(rows), end))
+        }
+        _ => Err(DecodeRefused::Bad {
+            at,
+            why: BadField::Body,
+        }),
+    }
+}
+
+/// A pair for each value bit of the shape.
+fn read_pairs(shape: Shape, bytes: &[u8], at: usize) -> Result<(Served, usize), DecodeRefused>
+    requires { at ≤ length bytes.now }
+    ensures stands { IfOk result (λ read. Stand bytes.now at (flat_map pair_octets read.0)) }
+    ensures end { IfOk result (λ read. read.1 ≡ at + 3 * length read.0) }
+    ensures one_each { IfOk result (λ read. length read.0 ≡ value_bits shape.nodes) }
+    ensures sized { IfOk result (λ read. All IsPair read.0) }
+    ensures fault { result_err result ≡ first_fault bytes.now (pair_fields (value_bits shape.nodes) at) }
+{
+    let bits = shape.value_bits();
+    let mut pairs = [Pair::default(); MOST_BITS];
+    let mut place = at;
+    'pairs: for bit in 0..usize::from(bits) {
+        pairs[bit] = read_pair(bytes, place)?;
+        place += 3;
+    }
+    Ok((Served { bits, pairs }, place))
+}
+
+fn read_pair(bytes: &[u8], at: usize) -> Result<Pair, DecodeRefused>
+    requires { at ≤ length bytes.now }
+    ensures stands { IfOk result (λ pair. Stand bytes.now at (pair_octets pair)) }
+    ensures sized { IfOk result IsPair }
+    ensures fault { result_err result ≡ first_fault bytes.now (pair_fields 1 at) }
+{
+    let index = take_two(bytes, at)?;
+    let array = take_octet(bytes, at + 2)?;
+    Ok(Pair { index, array })
+}
+
+/// The number of rows.
+fn read_count(bytes: &[u8], at: usize) -> Result<u8, DecodeRefused>
+    requires { at ≤ length bytes.now }
+    ensures value { IfOk result (λ count. count ≡ octet_at bytes.now at) }
+    ensures stands { IfOk result (λ count. Stand bytes.now at (count ∷ [])) }
+    ensures enough { IfOk result (λ count. 2 ≤ count) }
+    ensures few { IfOk result (λ count. count ≤ 64) }
+    ensures fault { result_err result ≡ fault_of bytes.now (count_field bytes.now at) }
+{
+    let count = take_octet(bytes, at)?;
+    if count < 2 || count > 64 {
+        return Err(DecodeRefused::Bad {
+            at,
+            why: BadField::Count,
+        });
+    }
+    Ok(count)
+}
+
+/// So many rows, and the place after them.
+fn read_rows(
+    shape: Shape,
+    count: u8,
+    bytes: &[u8],
+    at: usize,
+) -> Result<(Rows, usize), DecodeRefused>
+    requires there { at ≤ length bytes.now }
+    requires enough { 2 ≤ count }
+    requires few { count ≤ 64 }
+    ensures stands { IfOk result (λ read. Stand bytes.now at (flat_map row_octets read.0)) }
+    ensures end { IfOk result (λ read. read.1 ≡ at + 14 * length read.0) }
+    ensures counted { IfOk result (λ read. length read.0 ≡ count) }
+    ensures fits { IfOk result (λ read. RowsFit shape.nodes read.0) }
+    ensures sized { IfOk result (λ read. All (λ row. IsKey row.key) read.0) }
+    ensures fault { result_err result ≡ first_fault bytes.now (row_fields shape.nodes bytes.now count None at) }
+{
+    let (rows, end) = gather_rows(shape, count, bytes, at)?;
+    match Rows::of(rows.as_slice()) {
+        Some(rows) => Ok((rows, end)),
+        None => unreachable!(),
+    }
+}
+
+/// So many rows in their order, and the place after them.
+fn gather_rows(
+    shape: Shape,
+    count: u8,
+    bytes: &[u8],
+    at: usize,
+) -> Result<(ArrayVec<Row, MOST_ROWS>, usize), DecodeRefused>
+    requires there { at ≤ length bytes.now }
+    requires few { count ≤ 64 }
+    ensures stands { IfOk result (λ read. Stand bytes.now at (flat_map row_octets read.0.items)) }
+    ensures end { IfOk result (λ read. read.1 ≡ at + 14 * length read.0.items) }
+    ensures counted { IfOk result (λ read. length read.0.items ≡ count) }
+    ensures sized { IfOk result (λ read. All (λ row. IsKey row.key) read.0.items) }
+    ensures fault { result_err result ≡ first_fault bytes.now (row_fields shape.nodes bytes.now count None at) }
+{
+    let mut rows = ArrayVec::new();
+    let mut before = None;
+    let mut place = at;
+    'rows: for _ in 0..count {
+        let row = read_row(shape, before, bytes, place)?;
+        rows.push(row);
+        before = Some(row.key);
+        place += 14;
+    }
+    Ok((rows, place))
+}
+
+/// A row after the row with the key `before`, if there is one.
+fn read_row(
+    shape: Shape,
+    before: Option<FlowKey>,
+    bytes: &[u8],
+    at: usize,
+) -> Result<Row, DecodeRefused>
+    requires { at ≤ length bytes.now }
+    ensures value { IfOk result (λ row. number row.key ≡ key_at bytes.now at) }
+    ensures stands { IfOk result (λ row. Stand bytes.now at (row_octets row)) }
+    ensures sized { IfOk result (λ row. IsKey row.key) }
+    ensures fault { result_err result ≡ first_fault bytes.now (row_fields shape.nodes bytes.now 1 (option_map number before) at) }
+{
+    let key = take_key(bytes, at)?;
+    if !is_above(before, key) {
+        return Err(DecodeRefused::Bad {
+            at,
+            why: BadField::Order,
+        });
+    }
+    let node = take_octet(bytes, at + 13)?;
+    if u16::from(node) >= shape.nodes() {
+        return Err(DecodeRefused::Bad {
+            at: at + 13,
+            why: BadField::Node,
+        });
+    }
+    Ok(Row { key, node })
+}
+
+/// Whether the key is greater than the one before, if there is one.
+fn is_above(before: Option<FlowKey>, key: FlowKey) -> bool
+    ensures { result ≡ fields.is_above (option_map number before) (number key) }
+{
+    match before {
+        Some(before) => before.number() < key.number(),
+        None => true,
+    }
+}

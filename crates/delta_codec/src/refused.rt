@@ -1,0 +1,36 @@
+/// The field of a message that breaks its rule.
+#[derive(Clone, Copy, Debug, PartialEq, Eq, Hash)]
+pub enum BadField {
+    /// The kind is neither that of a table message nor that of a FIB message.
+    Kind,
+    /// The owner isn't one of the cluster's nodes.
+    Owner,
+    /// The turn is 0.
+    Turn,
+    /// The block isn't one of the table's, or isn't the owner's.
+    Block,
+    /// The group is 64 or more.
+    Group,
+    /// The body isn't one of the message's kind.
+    Body,
+    /// The number of rows isn't in 2..=64.
+    Count,
+    /// A row's key isn't greater than the key of the row before.
+    Order,
+    /// A row's node isn't one of the cluster's nodes.
+    Node,
+}
+
+/// Why no message begins the octets.
+#[derive(Clone, Copy, Debug, PartialEq, Eq, Hash)]
+pub enum DecodeRefused {
+    /// The octets end before the message does, and no field that is wholly there breaks its rule.
+    Short,
+    /// A field that is wholly there breaks its rule.
+    Bad {
+        /// The place of the first octet of the first such field, counted from 0.
+        at: usize,
+        /// Which field it is.
+        why: BadField,
+    },
+}

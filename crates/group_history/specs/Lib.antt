@@ -1,0 +1,5 @@
+pub mod Change
+pub mod Journal
+pub mod Kept
+pub mod History
+pub mod Routes

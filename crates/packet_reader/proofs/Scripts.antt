@@ -1,0 +1,85 @@
+-- A script with one more row.
+use Rattle.std.proofs.Common.{ℕ, ◌≡◌, ◌∙◌, ◌+◌, ◌<◌, Bool, true, false, cond, List, ◌++◌, length, drop, drop-cons, add-one, append-nil, Option, Some, None, option_to_list, Result, Ok, Err, ap, sym, subst, refl}
+use Rattle.std.specs.Prelude.{All, IfOk, IfSome}
+use Rattle.std.proofs.lemmas.List.Elements.{All-push}
+use Rattle.csv_rows.specs.Rows.{Row, TakesRow}
+use Rattle.flow_types.specs.Size.{Size}
+use Rattle.flow_types.specs.declared.why.BadRow.{BadRow}
+use Rattle.flow_types.specs.declared.why.Why.{Why}
+use Rattle.flow_types.specs.declared.why.Why.TheVariants as why
+use Rattle.flow_reader.specs.Opening.{bad_row}
+use Rattle.packet_reader.specs.declared.event.Event.{Event}
+use Rattle.packet_reader.specs.declared.kind.Kind.{Kind}
+use Rattle.packet_reader.specs.declared.mode.Mode.{Mode}
+use Rattle.packet_reader.specs.Form.{IsFormed, IsOfKind}
+use Rattle.packet_reader.specs.Mode.{may_stand}
+use Rattle.packet_reader.specs.Script.{Progress, row_after, script_ends, refused_or, script_from, script_of, start, with_row, with_said}
+
+-- what the rows say, where the first of them says this
+abbrev pub goes_on : Mode → Size → List Row → Progress → ℕ → Result (Option Event) Why → Result (List Event) BadRow
+goes_on mode shape rest so_far number said = refused_or number said (script_from mode shape rest (with_said so_far said) (number + 1))
+
+-- one more row skipped
+pub row_skipped : (found : Bool) (all before after : List Row) (row : Row) (i : ℕ) → i < length all → before ≡ drop i all → TakesRow found before row after → after ≡ drop (i + 1) all
+row_skipped true all before after row i inside left takes = let more = drop-cons all i row inside in rw add-one cc
+row_skipped false all before after row i inside left takes = let more = drop-cons all i row inside in cc
+
+-- no row was read yet
+pub script_begins : (mode : Mode) (shape : Size) (begin_row : ℕ) (rest : List Row) → script_from mode shape rest start (begin_row + 1) ≡ script_of mode shape begin_row rest
+unfolding script_of
+script_begins mode shape begin_row rest = refl
+
+module _ (mode : Mode) (shape : Size) (so_far : Progress) (number : ℕ) (before after : List Row) (row : Row) (whole : Result (List Event) BadRow) (found : Bool)
+    (takes : TakesRow found before row after) (said_so_far : script_from mode shape before so_far number ≡ whole) where
+  module _ (there : found ≡ true) where
+    read_on : goes_on mode shape after so_far number (row_after mode shape so_far row) ≡ whole
+    unfolding script_from
+    read_on =
+        let taken = subst (λ f. TakesRow f before row after) there takes in
+        sym (ap (λ rows. script_from mode shape rows so_far number) taken) ∙ said_so_far
+
+    -- the row says an event, or ends the script
+    pub row_says : (said : Option Event) (then : Progress) → row_after mode shape so_far row ≡ Ok said → then ≡ with_row so_far said
+        → script_from mode shape after then (number + 1) ≡ whole
+    row_says said then says is =
+        ap (λ p. script_from mode shape after p (number + 1)) is
+        ∙ sym (ap (goes_on mode shape after so_far number) says) ∙ read_on
+
+    -- the row is bad
+    pub row_refused : (reason : Why) → row_after mode shape so_far row ≡ Err reason → whole ≡ Err (bad_row number reason)
+    row_refused reason says = sym read_on ∙ ap (goes_on mode shape after so_far number) says
+
+    -- there is one row less
+    pub fewer : length before ≡ length after + 1
+    fewer = ap length (subst (λ f. TakesRow f before row after) there takes) ∙ sym (add-one (length after))
+
+  module _ (none : found ≡ false) where
+    at_end : whole ≡ script_ends so_far number
+    unfolding script_from
+    at_end =
+        let taken = subst (λ f. TakesRow f before row after) none takes in
+        sym said_so_far ∙ ap (λ rows. script_from mode shape rows so_far number) taken
+
+    -- no row is left, and the script has ended
+    pub ends_well : so_far.ended ≡ true → (events : List Event) → events ≡ so_far.events → whole ≡ Ok events
+    ends_well is events same = at_end ∙ ap (λ e. cond e (Ok so_far.events) (Err (bad_row number why.NoEnd))) is ∙ ap Ok (sym same)
+
+    -- no row is left, and there was no `end`
+    pub lacks_end : so_far.ended ≡ false → whole ≡ Err (bad_row number why.NoEnd)
+    lacks_end is = at_end ∙ ap (λ e. cond e (Ok so_far.events) (Err (bad_row number why.NoEnd))) is
+
+-- what a row says, whose kind the mode allows, has the form of a row of the mode
+pub formed_of : (mode : Mode) (shape : Size) (kind : Kind) (said : Result (Option Event) Why) → may_stand mode kind ≡ true → IfOk said (λ o. IfSome o (IsOfKind shape kind))
+    → IfOk said (λ o. IfSome o (IsFormed mode shape))
+formed_of mode shape kind (Err reason) allowed of_kind = tt
+formed_of mode shape kind (Ok None) allowed of_kind = tt
+formed_of mode shape kind (Ok (Some event)) allowed of_kind = record {
+  allowed = rw of_kind.kind_is allowed;
+  in_range = of_kind.in_range;
+}
+
+-- and so have all events with it
+pub formed_more : (mode : Mode) (shape : Size) (events : List Event) (said : Option Event) (then : List Event) → All (IsFormed mode shape) events → IfSome said (IsFormed mode shape)
+    → then ≡ events ++ option_to_list said → All (IsFormed mode shape) then
+formed_more mode shape events None then formed one is = rw (is, append-nil events) formed
+formed_more mode shape events (Some event) then formed one is = rw is (All-push (IsFormed mode shape) events event formed one)

@@ -1,0 +1,40 @@
+-- The form of the events that the rows of a script say.
+use Rattle.std.specs.Prelude.{ℕ, ◌≡◌, ◌<◌, ◌≤◌, List, IsTrue}
+use Rattle.flow_types.specs.Size.{Size}
+use Rattle.packet_reader.specs.declared.event.Event.{Event}
+use Rattle.packet_reader.specs.declared.event.Event.TheVariants.{Set, Del, Packet, Carry, Sync}
+use Rattle.packet_reader.specs.declared.kind.Kind.{Kind}
+use Rattle.packet_reader.specs.declared.mode.Mode.{Mode}
+use Rattle.packet_reader.specs.declared.mode.Mode.TheVariants.{Replay, Storm}
+use Rattle.packet_reader.specs.Kind.{kind_of_event}
+use Rattle.packet_reader.specs.Mode.{may_stand, syncs_of}
+
+-- one of an owner's turns is told to a node: both are nodes of the cluster, and turns are numbered from 1 to 65,535
+pub record IsCarried (nodes node owner turn : ℕ) : Type 0 where
+  pub to_a_node : node < nodes
+  pub of_a_node : owner < nodes
+  pub at_least_one : 1 ≤ turn
+  pub most : turn ≤ 65535
+
+-- the nodes and turns that the event names are there, in a cluster of this shape
+abbrev pub IsInRange : Size → Event → Type 0
+IsInRange shape (Set flow) = flow.node < shape.nodes
+IsInRange shape (Del key) = Unit {0}
+IsInRange shape (Packet ingress key) = ingress < shape.nodes
+IsInRange shape (Carry node owner turn part) = IsCarried shape.nodes node owner turn
+IsInRange shape Sync = Unit {0}
+
+-- a row of this kind may say the event, in a cluster of this shape
+pub record IsOfKind (shape : Size) (kind : Kind) (event : Event) : Type 0 where
+  pub kind_is : kind_of_event event ≡ kind
+  pub in_range : IsInRange shape event
+
+-- the event has the form of a row of this mode, in a cluster of this shape
+pub record IsFormed (mode : Mode) (shape : Size) (event : Event) : Type 0 where
+  pub allowed : IsTrue (may_stand mode (kind_of_event event))
+  pub in_range : IsInRange shape event
+
+-- the events' `sync`s part them into no more phases than this mode may have: a storm has at most 256
+abbrev pub HasFewPhases : Mode → List Event → Type 0
+HasFewPhases Replay events = Unit {0}
+HasFewPhases Storm events = syncs_of events < 256

@@ -1,0 +1,6 @@
+pub mod Mode
+pub mod Kind
+pub mod Fields
+pub mod Script
+pub mod FirstBad
+pub mod Form

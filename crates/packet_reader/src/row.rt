@@ -1,0 +1,108 @@
+ghost use Rattle.std.specs.Prelude.{◌≡◌, ◌≤◌, IfOk, IfSome};
+ghost use Rattle.csv_rows.specs.Rows.{fields_of};
+ghost use Rattle.packet_reader.specs.Fields.{carry_fields, del_fields, fields_say, packet_fields, part_field, set_fields, turn_field};
+ghost use Rattle.packet_reader.specs.Form.{IsFormed, IsOfKind};
+ghost use Rattle.packet_reader.specs.Script.{script_row};
+
+use crate::event::{Event, Part};
+use crate::kind::Kind;
+use crate::mode::Mode;
+use csv_rows::{ByteRecord, field};
+use flow_reader::{flow_of, key_at, node_field, number_field};
+use flow_types::{Shape, Why};
+
+/// What a row says by itself: an event, or by `None` that the script ends.
+#[tactic(auto, using(crate::proofs::Scripts::formed_of), unfolding(crate::specs::Script::script_row))]
+pub(crate) fn script_row(row: &ByteRecord, shape: Shape, mode: Mode) -> Result<Option<Event>, Why>
+    ensures says { result ≡ script_row mode shape (fields_of row.now) }
+    ensures formed { IfOk result (λ said. IfSome said (IsFormed mode shape)) }
+{
+    let kind = Kind::of(row)?;
+    if !mode.allows(kind) {
+        return Err(Why::CarryInStorm);
+    }
+    if row.len() != kind.width() {
+        return Err(Why::Fields);
+    }
+    fields_say(row, kind, shape)
+}
+
+/// What the fields of a row of this kind say.
+fn fields_say(row: &ByteRecord, kind: Kind, shape: Shape) -> Result<Option<Event>, Why>
+    ensures says { result ≡ fields_say kind shape.nodes (fields_of row.now) }
+    ensures of_kind { IfOk result (λ said. IfSome said (IsOfKind shape kind)) }
+{
+    let event = match kind {
+        Kind::Set => set_fields(row, shape)?,
+        Kind::Del => del_fields(row)?,
+        Kind::Packet => packet_fields(row, shape)?,
+        Kind::Carry => carry_fields(row, shape)?,
+        Kind::Sync => Event::Sync,
+        Kind::End => return Ok(None),
+    };
+    Ok(Some(event))
+}
+
+fn set_fields(row: &ByteRecord, shape: Shape) -> Result<Event, Why>
+    ensures says { result ≡ set_fields shape.nodes (fields_of row.now) }
+    ensures of_kind { IfOk result (IsOfKind shape Kind.Set) }
+{
+    let flow = flow_of(row, shape.nodes())?;
+    Ok(Event::Set(flow))
+}
+
+fn del_fields(row: &ByteRecord) -> Result<Event, Why>
+    ensures { result ≡ del_fields (fields_of row.now) }
+{
+    let key = key_at(row, 1)?;
+    Ok(Event::Del(key))
+}
+
+fn packet_fields(row: &ByteRecord, shape: Shape) -> Result<Event, Why>
+    ensures says { result ≡ packet_fields shape.nodes (fields_of row.now) }
+    ensures of_kind { IfOk result (IsOfKind shape Kind.Packet) }
+{
+    let ingress = node_field(field(row, 1), shape.nodes())?;
+    let key = key_at(row, 2)?;
+    Ok(Event::Packet { ingress, key })
+}
+
+fn carry_fields(row: &ByteRecord, shape: Shape) -> Result<Event, Why>
+    ensures says { result ≡ carry_fields shape.nodes (fields_of row.now) }
+    ensures of_kind { IfOk result (IsOfKind shape Kind.Carry) }
+{
+    let node = node_field(field(row, 1), shape.nodes())?;
+    let owner = node_field(field(row, 2), shape.nodes())?;
+    let turn = turn_field(field(row, 3))?;
+    let part = part_field(field(row, 4))?;
+    Ok(Event::Carry {
+        node,
+        owner,
+        turn,
+        part,
+    })
+}
+
+fn turn_field(text: &[u8]) -> Result<u32, Why>
+    ensures value { result ≡ turn_field text.now }
+    ensures least { IfOk result (λ turn. 1 ≤ turn) }
+    ensures most { IfOk result (λ turn. turn ≤ 65535) }
+{
+    let turn = number_field(text, 65535)?;
+    if turn == 0 {
+        return Err(Why::Number);
+    }
+    Ok(turn as u32)
+}
+
+fn part_field(text: &[u8]) -> Result<Part, Why>
+    ensures { result ≡ part_field text.now }
+{
+    if text == b"table".as_slice() {
+        Ok(Part::Table)
+    } else if text == b"fib".as_slice() {
+        Ok(Part::Fib)
+    } else {
+        Err(Why::Kind)
+    }
+}

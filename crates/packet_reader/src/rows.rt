@@ -1,0 +1,102 @@
+ghost use Rattle.std.specs.Prelude.{◌≡◌, ◌+◌, ◌<◌, ◌≤◌, ◌^◌, All, length, drop, IfOk, OnOk};
+ghost use Rattle.out_of_memory.specs.Answer.{Answers};
+ghost use Rattle.flow_types.specs.Input.{most_octets};
+ghost use Rattle.csv_rows.specs.Reading.{IsReading, rows_left};
+ghost use Rattle.csv_rows.specs.Rows.{rows};
+ghost use Rattle.flow_reader.specs.Opening.{bad_row, named_row};
+ghost use Rattle.packet_reader.specs.FirstBad.{IsScript};
+ghost use Rattle.packet_reader.specs.Form.{HasFewPhases, IsFormed};
+ghost use Rattle.packet_reader.specs.Script.{events_of, script_of};
+
+use crate::event::Event;
+use crate::mode::Mode;
+use crate::progress::Progress;
+use csv_rows::{ByteRecord, RowReader};
+use flow_reader::RowRefused;
+use flow_types::{BadRow, Shape, Why};
+use out_of_memory::OutOfMemory;
+use std::alloc::Global;
+
+/// Reads the rows of the bytes after `begin`, which stands in the row of this number, to the end of the input: rows of
+/// the kinds `set`, `del`, `packet`, `carry` and `sync`, then `end`, which is the last row.
+///
+/// `Bad` is the first row that breaks a rule; where the rows end before `end`, it is the row after the last. What is
+/// looked at first in a row: whether it follows the `end`, its kind, whether the mode allows that, its number of fields,
+/// its fields from left to right, and whether it is one `sync` too many. `OutOfMemory` may come at any row.
+pub fn read_script(
+    alloc: Global,
+    bytes: &[u8],
+    begin_row: u32,
+    shape: Shape,
+    mode: Mode,
+) -> Result<Vec<Event>, RowRefused>
+    requires limit { length bytes.now ≤ most_octets }
+    requires begun { begin_row ≤ length (rows bytes.now) }
+    ensures answers { Answers events_of named_row (script_of mode shape begin_row (drop begin_row (rows bytes.now))) result }
+
+    // What that makes of the events and of their rows.
+    ensures script { IfOk result (λ events. IsScript mode shape (drop begin_row (rows bytes.now)) events.items) }
+    ensures formed { IfOk result (λ events. All (IsFormed mode shape) events.items) }
+    ensures phases { IfOk result (λ events. HasFewPhases mode events.items) }
+{
+    let mut reader = RowReader::new(alloc, bytes);
+    skip_rows(alloc, &mut reader, begin_row)?;
+    read_script_from(alloc, &mut reader, begin_row, shape, mode)
+}
+
+/// Reads the rows that a reader has left as `read_script` reads those after `begin`, which stands in the row of this
+/// number and is the last that was taken from the reader. A reader with which it answered an error isn't asked again.
+#[tactic(auto, using(crate::proofs::Scripts::script_begins))]
+pub fn read_script_from(
+    alloc: Global,
+    reader: &mut RowReader<'_>,
+    begin_row: u32,
+    shape: Shape,
+    mode: Mode,
+) -> Result<Vec<Event>, RowRefused>
+    requires reading { IsReading reader.old }
+    requires few { begin_row + length (rows_left reader.old) + 1 < 2 ^ 32 }
+    ensures answers { Answers events_of named_row (script_of mode shape begin_row (rows_left reader.old)) result }
+
+    // What that makes of the events and of their rows.
+    ensures script { IfOk result (λ events. IsScript mode shape (rows_left reader.old) events.items) }
+    ensures formed { IfOk result (λ events. All (IsFormed mode shape) events.items) }
+    ensures phases { IfOk result (λ events. HasFewPhases mode events.items) }
+{
+    let mut progress = Progress::new(alloc);
+    let mut row = ByteRecord::new(alloc);
+    let mut number = begin_row + 1;
+    'rows: while reader.next_row(&mut row)? {
+        match progress.row_after(&row, shape, mode) {
+            Ok(said) => progress.add(said)?,
+            Err(why) => return Err(refusal(number, why)),
+        }
+        number += 1;
+    }
+    if progress.has_ended() {
+        Ok(progress.into_events())
+    } else {
+        Err(refusal(number, Why::NoEnd))
+    }
+}
+
+/// Takes so many rows from the reader.
+#[tactic(auto, using(crate::proofs::Scripts::row_skipped))]
+fn skip_rows(alloc: Global, reader: &mut RowReader<'_>, count: u32) -> Result<(), OutOfMemory>
+    requires reading { IsReading reader.old }
+    requires enough { count ≤ length (rows_left reader.old) }
+    ensures reading { OnOk result (IsReading reader.new) }
+    ensures skipped { OnOk result (rows_left reader.new ≡ drop count (rows_left reader.old)) }
+{
+    let mut row = ByteRecord::new(alloc);
+    'skipped: for _taken in 0..count {
+        reader.next_row(&mut row)?;
+    }
+    Ok(())
+}
+
+fn refusal(row: u32, why: Why) -> RowRefused
+    ensures { result ≡ RowRefused.Bad (bad_row row why) }
+{
+    RowRefused::Bad(BadRow { row, why })
+}

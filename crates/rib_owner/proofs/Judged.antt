@@ -1,0 +1,141 @@
+-- The judgement of an update, case by case, and by the maps that a block has now.
+use Rattle.std.proofs.Common.{ℕ, ◌≡◌, ◌≢◌, ◌∙◌, ◌+◌, ◌-◌, ◌≤◌, ◌<◌, Bool, true, false, cond, List, length, Option, Some, None, is_some, refl, ap, arith}
+use Rattle.std.specs.Prelude.{◌==◌, nat_lt}
+use Rattle.std.specs.Option.{option_or}
+use Rattle.std.proofs.lemmas.Bool.{le-ltb, eqb-false, eq-eqb, ne_eqb}
+use Rattle.flow_types.specs.declared.key.FlowKey.{FlowKey}
+use Rattle.flow_types.specs.declared.record.Flow.{Flow}
+use Rattle.flow_types.specs.Map.{flow_at}
+use Rattle.group_search.specs.Build.{rows_needed}
+use Rattle.group_search.specs.Canon.{is_separable}
+use Rattle.group_search.specs.Home.{Home}
+use Rattle.group_search.specs.Records.{entries}
+use Rattle.group_history.specs.Change.{step}
+use Rattle.rib_owner.specs.declared.refused.UpdateRefused.{UpdateRefused}
+use Rattle.rib_owner.specs.declared.refused.UpdateRefused.TheVariants.{Spent, Absent, BlockFull, RowsFull, OutOfMemory}
+use Rattle.rib_owner.specs.declared.update.Update.{Update}
+use Rattle.rib_owner.specs.declared.update.Update.TheVariants.{Set, Del}
+use Rattle.rib_owner.specs.Acceptance.{Grounds, change_at, free_beside, grounds_in, key_of, keys_in, refusal, refusal_of_place, refusal_of_rows}
+use Rattle.rib_owner.specs.Judging.{IsFor, refusal_in_rows}
+use Rattle.rib_owner.specs.Part.{IsKept}
+use Rattle.rib_owner.specs.Rib.{Part, map_in}
+use Rattle.rib_owner.proofs.Rows.{left_is_free, length-entries}
+use Rattle.rib_owner.proofs.Steps.{step_known, step_most}
+use Rattle.rib_owner.proofs.Sums.{beside_below, from_same}
+
+-- ---- the same maps give the same grounds
+
+grounds_of : (turns block : ℕ) → Bool → (keys : ℕ) → Bool → (needed free : ℕ) → Grounds
+grounds_of turns block known keys served needed free =
+    record { turns = turns; block = block; known = known; keys = keys; served = served; needed = needed; free = free }
+
+keys_same : (maps others : ℕ → List Flow) → ((x : ℕ) → x < 64 → maps x ≡ others x) → keys_in maps ≡ keys_in others
+unfolding keys_in
+keys_same maps others same = from_same (λ (x : ℕ). length (maps x)) (λ (x : ℕ). length (others x)) 64 0 (λ x low high. ap length (same x (omega arith)))
+
+free_same : (bits group : ℕ) (maps others : ℕ → List Flow) → ((x : ℕ) → x < 64 → maps x ≡ others x) → free_beside bits maps group ≡ free_beside bits others group
+unfolding free_beside
+free_same bits group maps others same =
+    ap (λ (n : ℕ). 64 - n)
+    (beside_below (λ (x : ℕ). rows_needed bits (entries (maps x))) (λ (x : ℕ). rows_needed bits (entries (others x))) group 64 0
+    (λ x low high. ap (λ (m : List Flow). rows_needed bits (entries m)) (same x (omega arith))))
+
+pub grounds_same : (bits turns : ℕ) (at : Home) (maps others : ℕ → List Flow) (update : Update) → at.group < 64 → ((x : ℕ) → x < 64 → maps x ≡ others x)
+    → grounds_in bits turns at maps update ≡ grounds_in bits turns at others update
+unfolding grounds_in grounds_of
+grounds_same bits turns at maps others update low same =
+    let here = same at.group low in
+    let with : List Flow → ℕ → ℕ → Grounds = λ m keys free.
+    grounds_of turns at.block (is_some (flow_at (key_of update) m)) keys (is_separable bits (entries (step m (change_at at update)))) (length (step m (change_at at update))) free in
+    ap (λ (m : List Flow). with m (keys_in maps) (free_beside bits maps at.group)) here
+    ∙ ap (λ (k : ℕ). with (others at.group) k (free_beside bits maps at.group)) (keys_same maps others same)
+    ∙ ap (λ (f : ℕ). with (others at.group) (keys_in others) f) (free_same bits at.group maps others same)
+
+-- ---- the cause of a refusal, lifted from one case to all
+
+pub lifted : (why whole : Option UpdateRefused) (refused : UpdateRefused) → IsFor why refused → (why ≡ Some refused → whole ≡ Some refused) → IsFor whole refused
+lifted why whole (Spent limit) is lift = lift is
+lifted why whole Absent is lift = lift is
+lifted why whole (BlockFull block) is lift = lift is
+lifted why whole (RowsFull block needed free) is lift = lift is
+lifted why whole OutOfMemory is lift = tt
+
+module _ (update : Update) (on : Grounds) where
+  pub spent : on.turns ≡ 65535 → refusal update on ≡ Some (Spent 65535)
+  unfolding refusal
+  spent turns = rw (eq-eqb on.turns 65535 turns) refl
+
+  pub not_spent : on.turns ≢ 65535 → refusal update on ≡ option_or (refusal_of_place update on) (refusal_of_rows on)
+  unfolding refusal
+  not_spent turns = rw (ne_eqb on.turns 65535 turns) refl
+
+  pub for_place : on.turns ≢ 65535 → (refused : UpdateRefused) → refusal_of_place update on ≡ Some refused → refusal update on ≡ Some refused
+  for_place turns refused is = not_spent turns ∙ ap (λ (why : Option UpdateRefused). option_or why (refusal_of_rows on)) is
+
+  pub for_rows : on.turns ≢ 65535 → refusal_of_place update on ≡ None → refusal update on ≡ refusal_of_rows on
+  for_rows turns none = not_spent turns ∙ ap (λ (why : Option UpdateRefused). option_or why (refusal_of_rows on)) none
+
+-- ---- the rows, by what the block keeps
+
+rows-case : (block needed free : ℕ) (served : Bool)
+    → cond (nat_lt free (cond served 0 needed)) (Some (RowsFull block needed free)) None ≡ cond served None (cond (nat_lt free needed) (Some (RowsFull block needed free)) None)
+rows-case block needed free true = rw (le-ltb free 0 (omega arith)) refl
+rows-case block needed free false = refl
+
+module _ (bits turns : ℕ) (at : Home) (part : Part) (update : Update) (kept : IsKept bits part) where
+  pub rows_alike : refusal_in_rows bits part (change_at at update) ≡ refusal_of_rows (grounds_in bits turns at (map_in part) update)
+  unfolding refusal_in_rows rows_needed grounds_in
+  rows_alike =
+      let after = step (map_in part at.group) (change_at at update) in
+      rw (left_is_free bits part at.group kept, length-entries after)
+      (rows-case at.block (length after) (free_beside bits (map_in part) at.group) (is_separable bits (entries after)))
+  -- ---- how many keys there are after an update whose key has a place
+
+module _ (bits turns : ℕ) (at : Home) (part : Part) (kept : IsKept bits part) where
+  few-full : (flow : Flow) (full : Bool) → (keys_in (map_in part) == 1536) ≡ full → cond full (Some (BlockFull at.block)) None ≡ None
+      → keys_in (map_in part) + length (step (map_in part at.group) (change_at at (Set flow))) ≤ 1536 + length (map_in part at.group)
+  few-full flow true e none = cc
+  few-full flow false e none =
+      let apart : keys_in (map_in part) ≢ 1536 = eqb-false _ _ e in
+      omega (arith, kept.few, step_most (map_in part at.group) (change_at at (Set flow)))
+
+  few-case : (update : Update) (known served : Bool) (needed free : ℕ) → is_some (flow_at (key_of update) (map_in part at.group)) ≡ known
+      → refusal_of_place update (grounds_of turns at.block known (keys_in (map_in part)) served needed free) ≡ None
+      → keys_in (map_in part) + length (step (map_in part at.group) (change_at at update)) ≤ 1536 + length (map_in part at.group)
+  unfolding grounds_of
+  few-case update true served needed free there none =
+      omega (arith, kept.few, step_known (map_in part at.group) (change_at at update) there (kept.distinct at.group))
+  few-case (Set flow) false served needed free there none = few-full flow (keys_in (map_in part) == 1536) refl none
+  few-case (Del key) false served needed free there none = cc
+
+  -- the block's limit holds after an update whose key has a place
+  pub few_after : (update : Update) → refusal_of_place update (grounds_in bits turns at (map_in part) update) ≡ None
+      → keys_in (map_in part) + length (step (map_in part at.group) (change_at at update)) ≤ 1536 + length (map_in part at.group)
+  unfolding grounds_in grounds_of
+  few_after update none =
+      few-case update (is_some (flow_at (key_of update) (map_in part at.group))) (is_separable bits (entries (step (map_in part at.group) (change_at at update))))
+      (length (step (map_in part at.group) (change_at at update))) (free_beside bits (map_in part) at.group) refl none
+
+-- ---- the place of a key, by what was found at it
+
+module _ (bits turns : ℕ) (at : Home) (maps : ℕ → List Flow) where
+  known-case : (update : Update) (on : Grounds) → on.known ≡ true → refusal_of_place update on ≡ None
+  known-case (Set flow) on known = rw known refl
+  known-case (Del key) on known = rw known refl
+
+  pub place_known : (update : Update) → is_some (flow_at (key_of update) (maps at.group)) ≡ true → refusal_of_place update (grounds_in bits turns at maps update) ≡ None
+  unfolding grounds_in
+  place_known update known = known-case update (grounds_in bits turns at maps update) known
+
+  pub place_absent : (key : FlowKey) → is_some (flow_at key (maps at.group)) ≡ false → refusal_of_place (Del key) (grounds_in bits turns at maps (Del key)) ≡ Some Absent
+  unfolding grounds_in
+  place_absent key unknown = rw unknown refl
+
+  pub place_full : (flow : Flow) → is_some (flow_at flow.key (maps at.group)) ≡ false → keys_in maps ≡ 1536
+      → refusal_of_place (Set flow) (grounds_in bits turns at maps (Set flow)) ≡ Some (BlockFull at.block)
+  unfolding grounds_in
+  place_full flow unknown full = rw (unknown, eq-eqb (keys_in maps) 1536 full) refl
+
+  pub place_new : (flow : Flow) → keys_in maps ≢ 1536 → is_some (flow_at flow.key (maps at.group)) ≡ false → refusal_of_place (Set flow) (grounds_in bits turns at maps (Set flow)) ≡ None
+  unfolding grounds_in
+  place_new flow more unknown = rw (unknown, ne_eqb (keys_in maps) 1536 more) refl

@@ -1,0 +1,12 @@
+pub mod Sums
+pub mod Steps
+pub mod Counted
+pub mod Gathered
+pub mod Rows
+pub mod Judged
+pub mod Kept
+pub mod Standing
+pub mod Filled
+pub mod OneCase
+pub mod Answering
+pub mod Accepting

@@ -1,0 +1,9 @@
+use Rattle.std.proofs.Common.{◌-◌}
+use Rattle.rib_owner.proofs.Filled.{AreOpened}
+use Rattle.rib_owner.proofs.opening.empty_blocks.Given as goal
+
+abbrev pub invariant-dealt : goal.invariant-dealt
+invariant-dealt l = AreOpened l.fn.shape l.number l.flows l.block l.blocks.items
+
+abbrev pub decreases-dealt : goal.decreases-dealt
+decreases-dealt l = l.fn.shape.blocks - l.block

@@ -1,0 +1,6 @@
+pub mod Rib
+pub mod Acceptance
+pub mod Turn
+pub mod Part
+pub mod Judging
+pub mod Opening

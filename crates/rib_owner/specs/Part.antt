@@ -1,0 +1,44 @@
+-- What an owner keeps of a block, so that an update costs no more than the search and the keys of its own group.
+use Rattle.std.specs.Prelude.{◌≡◌, ◌==◌, ℕ, ◌+◌, ◌-◌, ◌*◌, ◌<◌, ◌≤◌, not, List, length, map, filter, sum, slice_index}
+use Rattle.std.specs.List.{All, range_with_len}
+use Rattle.flow_types.specs.Map.{AreDistinct}
+use Rattle.flow_types.specs.Size.{Size, value_bits}
+use Rattle.group_search.specs.Build.{rows_needed}
+use Rattle.group_search.specs.Records.{entries}
+use Rattle.group_history.specs.declared.change.Change.{Change}
+use Rattle.rib_owner.specs.Acceptance.{keys_in}
+use Rattle.rib_owner.specs.Rib.{Part, map_in}
+
+-- how many rows all groups of the block take
+unfoldable pub rows_of : Part → ℕ
+rows_of part = sum (map (λ (group : ℕ). slice_index part.rows group) (range_with_len 0 64))
+
+-- how many rows the groups other than this one leave free
+unfoldable pub rows_left : Part → (group : ℕ) → ℕ
+rows_left part group = 64 - sum (map (λ (other : ℕ). slice_index part.rows other) (filter (λ (other : ℕ). not (other == group)) (range_with_len 0 64)))
+
+-- the block has a map and a number of rows for each group, and its totals are kept
+pub record IsCounted (kept_keys kept_used : ℕ) (part : Part) : Type 0 where
+  pub one_map_each : length part.maps ≡ 64
+  pub one_number_each : length part.rows ≡ 64
+  pub keys : kept_keys ≡ keys_in (map_in part)
+  pub used : kept_used ≡ rows_of part
+
+-- the groups are maps within the block's limits, and each takes as many rows as it needs
+pub record IsKept (bits : ℕ) (part : Part) : Type 0 where
+  pub one_map_each : length part.maps ≡ 64
+  pub one_number_each : length part.rows ≡ 64
+  pub distinct : (group : ℕ) → AreDistinct (map_in part group)
+  pub few : keys_in (map_in part) ≤ 1536
+  pub rows : (group : ℕ) → group < 64 → slice_index part.rows group ≡ rows_needed bits (entries (map_in part group))
+  pub few_rows : rows_of part ≤ 64
+
+-- what every owner is: it has its blocks among the cluster's, and each is kept within its limits
+pub record IsOwner (size : Size) (number : ℕ) (parts : List Part) : Type 0 where
+  pub enough : size.blocks ≤ number + size.nodes * length parts
+  pub kept : All (IsKept (value_bits size.nodes)) parts
+
+-- its journal has at most as many changes as there are turns
+pub record IsSound (size : Size) (number : ℕ) (parts : List Part) (changes : List Change) : Type 0 where
+  pub owner : IsOwner size number parts
+  pub turns : length changes ≤ 65535
