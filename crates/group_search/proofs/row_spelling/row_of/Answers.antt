@@ -1,6 +1,5 @@
-use Rattle.std.proofs.Common.{arith, ◌≡◌, ℕ, ◌+◌, ◌*◌, ◌/◌, ◌%◌, ◌^◌, ◌<◌, List, [], ◌∷◌, get_or, length, true, false, refl, sym, ◌∙◌, ap, subst}
+use Rattle.std.proofs.Common.{arith, ◌≡◌, ℕ, ◌+◌, ◌*◌, ◌/◌, ◌%◌, ◌^◌, ◌<◌, get_or, length, true, false, refl, sym, ◌∙◌, ap, subst}
 use Rattle.flow_types.specs.Key.{key_of}
-use Rattle.group_search.specs.declared.rows.Row.{Row}
 use Rattle.group_search.specs.RowWords.{SpellsRow}
 use Rattle.group_search.proofs.RowWordLemmas.{found_row, none_exactly, none_spelled, not_found, spells, two_words}
 use Rattle.group_search.proofs.row_spelling.row_of.Goals as goal
