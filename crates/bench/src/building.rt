@@ -1,11 +1,14 @@
-ghost use Rattle.std.specs.Prelude.{◌≡◌, ◌≤◌, IfOk, length};
+ghost use Rattle.std.specs.Prelude.{◌≡◌, ◌≤◌, All, IfOk, length};
+ghost use Rattle.flow_types.specs.declared.record.Flow.{Flow};
 ghost use Rattle.flow_types.specs.Map.{AreDistinct};
+ghost use Rattle.group_search.specs.Owned.{IsOwned};
 ghost use Rattle.group_search.specs.Records.{AreHandled};
 
 use crate::keys::draw;
 use flow_types::{Flow, FlowKey, Record, Shape};
-use group_search::BlockImage;
+use group_search::{BlockImage, GroupRecord};
 use hash_family::place;
+use replica_shard::PlainShard;
 use std::alloc::{AllocError, Global};
 
 /// So many flows with addresses from 0 up, at the first four nodes, drawn evenly.
@@ -28,6 +31,40 @@ pub fn flows(alloc: Global, shape: Shape, count: u32) -> Result<Vec<Flow>, Alloc
         made.push(Flow { key, node, info })?;
     }
     Ok(made)
+}
+
+/// The flows whose blocks the first node owns.
+pub fn owned(alloc: Global, shape: Shape, flows: &[Flow]) -> Result<Vec<Flow>, AllocError>
+    ensures { IfOk result (λ owned. All (λ (flow : Flow). IsOwned shape 0 flow.key) owned.items) }
+{
+    let mut owned = Vec::new(alloc);
+    'flows: for flow in flows {
+        if shape.owner(place(shape, flow.key).block) == 0 {
+            owned.push(*flow)?;
+        }
+    }
+    Ok(owned)
+}
+
+/// How many of the flows, whose blocks the shard's owner owns, the shard sends to their nodes.
+pub fn routed(shard: &PlainShard, flows: &[Flow]) -> u64
+    requires { All (λ (flow : Flow). IsOwned shard.now.size shard.now.owner flow.key) flows.now }
+{
+    let mut routed = 0u64;
+    'flows: for flow in flows {
+        let route = shard.route(flow.key);
+        routed = routed.wrapping_add(u64::from(route.node == Some(flow.node)));
+    }
+    routed
+}
+
+/// How many of the keys a record gives its first node.
+pub fn decoded(content: &GroupRecord, nodes: u16, flows: &[Flow]) -> u64 {
+    let mut first = 0u64;
+    'flows: for flow in flows {
+        first = first.wrapping_add(u64::from(content.decode(nodes, flow.key) == Some(0)));
+    }
+    first
 }
 
 /// How many of the flows the images send to their nodes.

@@ -69,7 +69,7 @@ module _ {S : Type 0} (key : Opened) where
           view = w';
           seat = at_changed s.views id me.0 (Writer w') at;
           words = ap (λ (x : ℕ). set s.words i (f x)) found ∙ (ap (λ (x : ℕ). set s.words i x) t.0 ∙ (ap (λ l. set l i n) same ∙ sym t.1));
-          opened_with = t.2.opening ∙ opened_with;
+          opened = t.2.opening ∙ opened_with;
           stands = t.3;
           each_seat = λ j v e. ⊎_elim (λ (h : (j ≡ id) × (Writer w' ≡ v)). subst (AgreesWith w' id j) h.1 (h.0, refl))
               (λ (h : (j ≢ id) × (get_elem? s.views j ≡ some v)). others_know w w' id j h.0 t.2 v (subst (λ (x : ℕ × WriterView). AgreesWith x.1 x.0 j v) (λ l. (sym known.0 l, sym known.1 l)) (k.each_seat j v h.1)))
@@ -95,7 +95,7 @@ module _ {S : Type 0} (key : Opened) where
           view = w;
           seat = set_else s.views id k.writer (Reader t.0) apart ∙ k.seat;
           words = set-get_or s.words i 0 ∙ k.words;
-          opened_with = k.opened;
+          opened = k.opened;
           stands = k.stands;
           each_seat = λ j v e. ⊎_elim (λ (h : (j ≡ id) × (Reader t.0 ≡ v)). subst (AgreesWith w k.writer j) h.1 t.1) (λ (h : (j ≢ id) × (get_elem? s.views j ≡ some v)). k.each_seat j v h.1)
               (at_set s.views id j (Reader t.0) v e);

@@ -91,7 +91,7 @@ module _ {S : Type 0} (key : Opened) where
           view = k.view;
           seat = set_else s.views id k.writer v' apart ∙ k.seat;
           words = k.words;
-          opened_with = k.opened;
+          opened = k.opened;
           stands = k.stands;
           each_seat = λ j v e. ⊎_elim (λ (h : (j ≡ id) × (v' ≡ v)). subst (λ (x : ℕ × View). AgreesWith k.view k.writer x.0 x.1) (λ l. (sym h.0 l, h.1 l)) knows)
               (λ (h : (j ≢ id) × (get_elem? s.views j ≡ some v)). k.each_seat j v h.1)
@@ -106,7 +106,7 @@ module _ {S : Type 0} (key : Opened) where
           view = w';
           seat = at_changed s.views id (Writer w) (Writer w') at;
           words = k.words ∙ (ap (λ u. u.words) (sym known.1) ∙ sym same);
-          opened_with = moves.opening ∙ (ap (λ u. u.opening) known.1 ∙ k.opened);
+          opened = moves.opening ∙ (ap (λ u. u.opening) known.1 ∙ k.opened);
           stands = stands;
           each_seat = λ j v e. ⊎_elim (λ (h : (j ≡ id) × (Writer w' ≡ v)). subst (AgreesWith w' id j) h.1 (h.0, refl))
               (λ (h : (j ≢ id) × (get_elem? s.views j ≡ some v)). others_know w w' id j h.0 moves v (subst (λ (x : ℕ × WriterView). AgreesWith x.1 x.0 j v) (λ l. (sym known.0 l, sym known.1 l)) (k.each_seat j v h.1)))
@@ -120,7 +120,7 @@ module _ {S : Type 0} (key : Opened) where
     view = k.view;
     seat = at_longer s.views (Reader r ∷ []) k.writer (Writer k.view) k.seat;
     words = k.words;
-    opened_with = k.opened;
+    opened = k.opened;
     stands = k.stands;
     each_seat = λ j v e. ⊎_elim (k.each_seat j v) (λ (h : Reader r ≡ v). subst (AgreesWith k.view k.writer j) h sees) (at_snoc s.views (Reader r) v j e);
   }

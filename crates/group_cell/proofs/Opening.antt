@@ -48,7 +48,7 @@ opens S o owners t all = let w = first_writer o in record {
   view = w;
   seat = refl;
   words = refl;
-  opened_with = refl;
+  opened = refl;
   stands = first_stands o owners t all;
   each_seat = alone w;
 }

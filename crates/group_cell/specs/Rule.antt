@@ -129,6 +129,6 @@ pub record Kept {S : Type 0} (opening : Opened) (s : State S View) : Type 0 wher
   pub view : WriterView
   pub seat : get_elem? s.views writer ≡ some (Writer view)
   pub words : s.words ≡ view.words
-  pub opened_with : view.opening ≡ opening
+  pub opened : view.opening ≡ opening
   pub stands : Stands view
   pub each_seat : (j : ℕ) (v : View) → get_elem? s.views j ≡ some v → AgreesWith view writer j v

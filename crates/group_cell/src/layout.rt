@@ -31,7 +31,7 @@ pub fn high_word(block: u16, place: usize) -> usize
 
 /// The sequence word of a group.
 pub fn sequence_word(at: Address) -> usize
-    ensures { result ≡ layout.sequence_word (layout.home at) }
+    ensures { result ≡ layout.sequence_word (layout.home_of at) }
 {
     BLOCK_WORDS * usize::from(at.block) + 2 * PLACES + (1 + DATA_WORDS) * usize::from(at.group)
 }
@@ -39,7 +39,7 @@ pub fn sequence_word(at: Address) -> usize
 /// A data word of a group.
 pub fn data_word(at: Address, number: usize) -> usize
     requires { number < 2 }
-    ensures { result ≡ layout.data_word (layout.home at) number }
+    ensures { result ≡ layout.data_word (layout.home_of at) number }
 {
     sequence_word(at) + 1 + number
 }
