@@ -1,9 +1,8 @@
 -- The paths that a packet may take. Its ingress sends it by one version of its flow's group, and the node that it is sent
 -- to answers by one version of that group.
-use Rattle.std.specs.Prelude.{◌≡◌, ℕ, ◌<◌, List, [], ◌∷◌, Contains, Option, Some, None, IfSome}
+use Rattle.std.specs.Prelude.{◌≡◌, ℕ, List, [], ◌∷◌, Some, None}
 use Rattle.flow_types.specs.declared.key.FlowKey.{FlowKey}
 use Rattle.flow_types.specs.declared.record.Flow.{Flow}
-use Rattle.flow_types.specs.declared.record.Record.{Record}
 use Rattle.group_search.specs.Home.{home, opening}
 use Rattle.group_history.specs.Routes.{Answer, Route}
 use Rattle.cluster_replay.specs.State.{State}
