@@ -1,0 +1,4 @@
+pub mod KeyNumbers
+pub mod Places
+pub mod TurnFacts
+pub mod Handled

@@ -1,0 +1,39 @@
+use Rattle.std.proofs.Common.{◌∙◌, ◌+◌, set, ap, arith}
+use Rattle.partial_fib.specs.Fib.{group_of_message, with_turn}
+use Rattle.partial_fib.specs.Store.{FibStore, state_of}
+use Rattle.partial_fib.proofs.Places.{count_of_message, low_version, one_more_at, same_turn}
+use Rattle.partial_fib.proofs.fib.Fib.apply.Goals as goal
+
+pub overflow_add-index_mut : goal.overflow_add-index_mut
+overflow_add-index_mut c =
+    let message = c.args.message.now in
+    let fib : FibStore = record {
+      size = c.self.inside.shape;
+      node = c.self.inside.node;
+      owner = c.self.inside.owner;
+      entries = c.self.inside.records;
+      counts = c.self.inside.versions.items;
+      taken = c.self.inside.taken;
+    } in
+    let is = count_of_message fib c.args.self.now message c.seat.result c.index_mut.result.now c.self.view_is c.requires c.if-message-self.false
+    c.self.invariant c.seat.ensures.value c.seat.ensures.there c.index_mut.ensures.value in
+    let low = low_version fib.size fib.owner fib.taken fib.counts (group_of_message message) c.self.invariant is.own in
+    omega (arith, low, is.count_is, c.if-message-have.false, c.requires.last_turn)
+
+pub returns-clause-taken : goal.returns-clause-taken
+returns-clause-taken c =
+    let message = c.args.message.now in
+    let fib : FibStore = record {
+      size = c.self.inside.shape;
+      node = c.self.inside.node;
+      owner = c.self.inside.owner;
+      entries = c.self.inside.records;
+      counts = c.self.inside.versions.items;
+      taken = c.self.inside.taken;
+    } in
+    let is = count_of_message fib c.args.self.now message c.seat.result c.index_mut.result.now c.self.view_is c.requires c.if-message-self.false
+    c.self.invariant c.seat.ensures.value c.seat.ensures.there c.index_mut.ensures.value in
+    same_turn fib message c.change.new.self (set fib.counts c.seat.result (c.index_mut.result.now + 1))
+    c.in_ok-change.ensures.changed
+    (one_more_at fib (group_of_message message) c.seat.result c.index_mut.result.now is)
+    ∙ ap (λ (f : FibStore). with_turn (state_of f) message) c.self.view_is

@@ -1,0 +1,15 @@
+use Rattle.std.proofs.Common.{◌∙◌, ap, List, Some, arith}
+use Rattle.flow_types.specs.declared.key.FlowKey.{FlowKey}
+use Rattle.flow_types.specs.declared.record.Record.{Record}
+use Rattle.flow_types.specs.Key.{number}
+use Rattle.partial_fib.specs.Fib.{with_record}
+use Rattle.partial_fib.specs.Store.{record_among}
+use Rattle.partial_fib.proofs.KeyNumbers.{updated}
+use Rattle.partial_fib.proofs.records.Records.put.Goals as goal
+
+pub returns-clause-put : goal.returns-clause-put
+returns-clause-put c =
+    updated c.args.key (Some c.args.info) c.self.inside.of_keys.entries c.insert.new.self.entries
+    (record { source = omega arith; destination = omega arith; source_port = omega arith; destination_port = omega arith; protocol = omega arith })
+    c.in_ok-insert.ensures.updates.0
+    ∙ ap (λ (entries : List (FlowKey × Record)). with_record (record_among entries) (number c.args.key) (Some c.args.info)) c.self.view_is

@@ -1,0 +1,157 @@
+ghost use Rattle.std.specs.Prelude.{◌≡◌, ◌≢◌, ◌↔◌, ℕ, ◌+◌, ◌<◌, ◌≤◌, ◌%◌, [], OnOk, OnErr, IfOk, IsErrOf};
+ghost use Rattle.flow_types.specs.Key.{number};
+ghost use Rattle.flow_types.specs.Map.{AreDistinct};
+ghost use Rattle.delta_codec.specs.Values.{IsKeyValue};
+ghost use Rattle.partial_fib.specs.declared.refused.FibRefused.TheVariants.{Foreign, Repeat, Early};
+ghost use Rattle.partial_fib.specs.declared.refused.FibRefused.TheVariants as causes;
+ghost use Rattle.partial_fib.specs.Fib.{fib_after, is_handled_of, with_turn};
+ghost use Rattle.partial_fib.specs.Message.{FibMessageFits};
+ghost use Rattle.partial_fib.specs.Op.{IsPut};
+ghost use Rattle.partial_fib.specs.Store.{record_among, state_of};
+
+use crate::records::Records;
+use crate::refused::FibRefused;
+use crate::seat::{seat, seats};
+use crate::seen::FibSeen;
+use delta_codec::FibMessage;
+use flow_types::{Flow, FlowKey, Shape};
+use hash_family::place;
+use out_of_memory::OutOfMemory;
+use std::alloc::Global;
+use std::marker::Model;
+
+/// One node's FIB of one owner: the records of the keys in the owner's blocks that the node handles, by the owner's turns
+/// that it has taken.
+#[derive(Drop)]
+pub struct Fib {
+    shape: Shape,
+    node: u8,
+    owner: u8,
+    records: Records,
+    versions: Vec<u32>,
+    taken: u32,
+}
+
+impl Model for Fib {
+    ghost use Rattle.partial_fib.specs.Store.{FibStore, KeepsVersions};
+
+    ghost Value = { FibStore };
+
+    ghost view = { λ f. record { size = f.shape; node = f.node; owner = f.owner; entries = f.records; counts = f.versions.items; taken = f.taken } };
+
+    ghost invariant = { λ f. KeepsVersions f.shape f.owner f.taken f.versions.items };
+}
+
+impl Fib {
+    /// The FIB with the records of the flows that the node handles in the owner's blocks, before the owner's first turn.
+    ///
+    /// The flows are those with which the cluster was opened. Node and owner are among the cluster's nodes, and the owner
+    /// has at least one block.
+    pub fn open(
+        alloc: Global,
+        shape: Shape,
+        node: u8,
+        owner: u8,
+        flows: &[Flow],
+    ) -> Result<Fib, OutOfMemory>
+        requires distinct { AreDistinct flows.now }
+        requires node { node < shape.nodes }
+        requires owner { owner < shape.nodes }
+        requires has_a_block { owner < shape.blocks }
+        ensures { IfOk result (λ fib. state_of fib ≡ fib_after shape node owner flows.now []) }
+    {
+        Ok(Fib {
+            shape,
+            node,
+            owner,
+            records: handled(alloc, shape, node, owner, flows)?,
+            versions: vec![in alloc; 0; seats(shape)]?,
+            taken: 0,
+        })
+    }
+
+    /// Takes the owner's next turn: its key is put or dropped, and the version of its group rises by 1.
+    ///
+    /// The message fits the cluster's shape.
+    pub fn apply(&mut self, message: &FibMessage) -> Result<(), FibRefused>
+        requires { FibMessageFits self.old.size message.now }
+        ensures taken { OnOk result (state_of self.new ≡ with_turn (state_of self.old) message.now) }
+        ensures foreign { (owner : ℕ) → IsErrOf result (Foreign owner) ↔
+            ((message.now.owner ≢ self.old.owner) × (owner ≡ message.now.owner)) }
+        ensures repeat { (have : ℕ) → IsErrOf result (Repeat have) ↔
+            ((message.now.owner ≡ self.old.owner) × (message.now.turn ≤ self.old.taken) × (have ≡ self.old.taken)) }
+        ensures early { (have : ℕ) → IsErrOf result (Early have) ↔
+            ((message.now.owner ≡ self.old.owner) × (self.old.taken + 1 < message.now.turn) × (have ≡ self.old.taken)) }
+        // Only a message that puts a record can lack memory.
+        ensures memory { IsErrOf result causes.OutOfMemory → IsPut message.now.op }
+        ensures refused { OnErr result (self.new ≡ self.old) }
+    {
+        if message.owner != self.owner {
+            return Err(FibRefused::Foreign {
+                owner: message.owner,
+            });
+        }
+        let have = self.taken;
+        if message.turn <= have {
+            return Err(FibRefused::Repeat { have });
+        }
+        if message.turn > have + 1 {
+            return Err(FibRefused::Early { have });
+        }
+        self.records.change(message.op)?;
+        self.versions[seat(self.shape, message.block, message.group)] += 1;
+        self.taken += 1;
+        Ok(())
+    }
+
+    /// The version of a group and the record of a key of it. It takes no memory.
+    ///
+    /// The block belongs to the owner, and the group is below 64.
+    pub fn find(&self, block: u16, group: u8, key: FlowKey) -> FibSeen
+        requires within { block < self.now.size.blocks }
+        requires owned { block % self.now.size.nodes ≡ self.now.owner }
+        requires in_block { group < 64 }
+        ensures version { result.version ≡ (state_of self.now).versions (record { block = block; group = group }) }
+        ensures answer { result.answer ≡ (state_of self.now).records (number key) }
+    {
+        FibSeen {
+            version: self.versions[seat(self.shape, block, group)],
+            answer: self.records.find(key),
+        }
+    }
+
+    /// How many of the owner's turns it has taken. It takes no memory.
+    pub fn taken(&self) -> u32
+        ensures { result ≡ self.now.taken }
+    {
+        self.taken
+    }
+}
+
+/// The records of the flows that the node handles in the owner's blocks.
+fn handled(
+    alloc: Global,
+    shape: Shape,
+    node: u8,
+    owner: u8,
+    flows: &[Flow],
+) -> Result<Records, OutOfMemory>
+    requires { AreDistinct flows.now }
+    ensures { IfOk result (λ records. record_among records ≡ (fib_after shape node owner flows.now []).records) }
+{
+    let mut records = Records::new(alloc);
+    'flows: for flow in flows {
+        if is_handled(shape, node, owner, *flow) {
+            records.put(flow.key, flow.info)?;
+        }
+    }
+    Ok(records)
+}
+
+/// Whether the node handles the flow, and the flow's block is the owner's.
+fn is_handled(shape: Shape, node: u8, owner: u8, flow: Flow) -> bool
+    ensures value { result ≡ is_handled_of shape node owner flow }
+    ensures sized { IsKeyValue flow.key }
+{
+    flow.node == node && shape.owner(place(shape, flow.key).block) == owner
+}
