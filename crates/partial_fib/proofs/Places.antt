@@ -11,7 +11,7 @@ use Rattle.group_history.specs.Journal.{change_count, concerning}
 use Rattle.delta_codec.specs.declared.message.FibMessage.{FibMessage}
 use Rattle.partial_fib.specs.Fib.{group_of_message, with_op, with_turn, with_version}
 use Rattle.partial_fib.specs.Message.{FibMessageFits}
-use Rattle.partial_fib.specs.Store.{FibStore, KeepsVersions, is_group_of, record_among, seat_of, state_of, version_in}
+use Rattle.partial_fib.specs.Store.{FibStore, KeepsVersions, is_group_of, record_among, slot_of, state_of, version_in}
 
 -- two blocks of one owner at one place among its blocks are one block
 same_block : (nodes a b : ℕ) → 1 ≤ nodes → a % nodes ≡ b % nodes → a / nodes ≡ b / nodes → a ≡ b
@@ -29,7 +29,7 @@ module _ (size : Size) (owner : ℕ) (some : 1 ≤ size.nodes) where
   is_group at within owned low = and_from _ _ (lt-ltb _ _ within) (and_from _ _ (eq-eqb _ _ owned) (lt-ltb _ _ low))
 
   -- groups of the owner at one place are one group
-  one_group : (a b : Home) → is_group_of size owner a ≡ true → is_group_of size owner b ≡ true → seat_of size.nodes b ≡ seat_of size.nodes a → is_home a b ≡ true
+  one_group : (a b : Home) → is_group_of size owner a ≡ true → is_group_of size owner b ≡ true → slot_of size.nodes b ≡ slot_of size.nodes a → is_home a b ≡ true
   one_group a b of_a of_b same =
       let in_a = owned_of a of_a in
       let in_b = owned_of b of_b in
@@ -37,46 +37,46 @@ module _ (size : Size) (owner : ℕ) (some : 1 ≤ size.nodes) where
       let places : a.block / size.nodes ≡ b.block / size.nodes = omega (arith, in_a.1, in_b.1, same) in
       and_from _ _ (eq-eqb a.block b.block (same_block size.nodes a.block b.block some (in_a.0 ∙ sym in_b.0) places)) (eq-eqb a.group b.group groups)
 
-  module _ (counts : List ℕ) (changed : Home) (own : is_group_of size owner changed ≡ true) (there : seat_of size.nodes changed < length counts) (next : ℕ)
-      (next_is : next ≡ slice_index_or counts (seat_of size.nodes changed) 0 + 1) where
+  module _ (counts : List ℕ) (changed : Home) (own : is_group_of size owner changed ≡ true) (there : slot_of size.nodes changed < length counts) (next : ℕ)
+      (next_is : next ≡ slice_index_or counts (slot_of size.nodes changed) 0 + 1) where
     beside : (asked : Home) (of_owner : Bool) → is_home changed asked ≡ false → is_group_of size owner asked ≡ of_owner
-        → version_in size owner (set counts (seat_of size.nodes changed) next) asked ≡ version_in size owner counts asked
+        → version_in size owner (set counts (slot_of size.nodes changed) next) asked ≡ version_in size owner counts asked
     beside asked false other e = rw e refl
     beside asked true other e =
-        rw e (get_or-set_other counts (seat_of size.nodes changed) (seat_of size.nodes asked) next 0
+        rw e (get_or-set_other counts (slot_of size.nodes changed) (slot_of size.nodes asked) next 0
         (λ same. true≢false (sym (one_group changed asked own e same) ∙ other)))
 
     at_home : (asked : Home) (here : Bool) → is_home changed asked ≡ here
-        → version_in size owner (set counts (seat_of size.nodes changed) next) asked ≡ cond here (version_in size owner counts asked + 1) (version_in size owner counts asked)
+        → version_in size owner (set counts (slot_of size.nodes changed) next) asked ≡ cond here (version_in size owner counts asked + 1) (version_in size owner counts asked)
     at_home asked true here =
         let parts = and_parts _ _ here in
         let is : changed ≡ asked = λ i. record { block = eqb-true changed.block asked.block parts.0 i; group = eqb-true changed.group asked.group parts.1 i } in
-        ap (version_in size owner (set counts (seat_of size.nodes changed) next)) (sym is)
-        ∙ rw own (get_or-set_same counts (seat_of size.nodes changed) next 0 there ∙ next_is)
-        ∙ sym (ap (λ (b : Bool). cond b (slice_index_or counts (seat_of size.nodes changed) 0) 0 + 1) own)
+        ap (version_in size owner (set counts (slot_of size.nodes changed) next)) (sym is)
+        ∙ rw own (get_or-set_same counts (slot_of size.nodes changed) next 0 there ∙ next_is)
+        ∙ sym (ap (λ (b : Bool). cond b (slice_index_or counts (slot_of size.nodes changed) 0) 0 + 1) own)
         ∙ ap (λ (at : Home). version_in size owner counts at + 1) is
     at_home asked false here = beside asked _ here refl
 
     -- the group has one version more, and each other what it had
-    one_more : version_in size owner (set counts (seat_of size.nodes changed) next) ≡ with_version (version_in size owner counts) changed
+    one_more : version_in size owner (set counts (slot_of size.nodes changed) next) ≡ with_version (version_in size owner counts) changed
     one_more = λ i asked. at_home asked (is_home changed asked) refl i
 
 -- a group of the owner has at most as many versions as turns were taken
 pub low_version : (size : Size) (owner taken : ℕ) (counts : List ℕ) (at : Home) → KeepsVersions size owner taken counts → is_group_of size owner at ≡ true
-    → slice_index_or counts (seat_of size.nodes at) 0 ≤ taken
+    → slice_index_or counts (slot_of size.nodes at) 0 ≤ taken
 low_version size owner taken counts at keeps own = rw own at (keeps.few at)
 
 -- the count of a group of the owner
 pub record IsCount (fib : FibStore) (at : Home) (place count : ℕ) : Type 0 where
   pub some_node : 1 ≤ fib.size.nodes
   pub own : is_group_of fib.size fib.owner at ≡ true
-  pub place_is : place ≡ seat_of fib.size.nodes at
-  pub there : seat_of fib.size.nodes at < length fib.counts
-  pub count_is : count ≡ slice_index_or fib.counts (seat_of fib.size.nodes at) 0
+  pub place_is : place ≡ slot_of fib.size.nodes at
+  pub there : slot_of fib.size.nodes at < length fib.counts
+  pub count_is : count ≡ slice_index_or fib.counts (slot_of fib.size.nodes at) 0
 
 -- what is read at the place of a message's group is the group's count
 pub count_of_message : (fib now : FibStore) (message : FibMessage) (place count : ℕ) → fib ≡ now → FibMessageFits now.size message → message.owner ≡ fib.owner
-    → KeepsVersions fib.size fib.owner fib.taken fib.counts → place ≡ seat_of fib.size.nodes (group_of_message message)
+    → KeepsVersions fib.size fib.owner fib.taken fib.counts → place ≡ slot_of fib.size.nodes (group_of_message message)
     → place < (fib.size.blocks - 1) / fib.size.nodes * 64 + 64 → count ≡ get_or fib.counts place count
     → IsCount fib (group_of_message message) place count
 count_of_message fib now message place count is fits owner_is keeps place_is within read =
@@ -116,7 +116,7 @@ zero_version n place none false is = refl
 pub no_versions : (size : Size) (owner n : ℕ) (counts : List ℕ) → counts ≡ replicate n 0 → version_in size owner counts ≡ (λ at. change_count at [])
 unfolding change_count concerning zeros
 no_versions size owner n counts are = λ i at.
-    (ap (λ (cs : List ℕ). version_in size owner cs at) are ∙ zero_version n (seat_of size.nodes at) 0 (is_group_of size owner at) refl) i
+    (ap (λ (cs : List ℕ). version_in size owner cs at) are ∙ zero_version n (slot_of size.nodes at) 0 (is_group_of size owner at) refl) i
 
 -- a FIB that has a turn's record and version has taken the turn
 pub same_turn : (fib : FibStore) (message : FibMessage) (entries : List (FlowKey × Record)) (counts : List ℕ)

@@ -28,12 +28,12 @@ abbrev pub is_group_of : Size → (owner : ℕ) → Home → Bool
 is_group_of size owner at = nat_lt at.block size.blocks && ((at.block % size.nodes == owner) && nat_lt at.group 64)
 
 -- the place of a group's version: the blocks are dealt to the owners in turn
-abbrev pub seat_of : (nodes : ℕ) → Home → ℕ
-seat_of nodes at = at.block / nodes * 64 + at.group
+abbrev pub slot_of : (nodes : ℕ) → Home → ℕ
+slot_of nodes at = at.block / nodes * 64 + at.group
 
 -- the version of a group, and 0 for a group that isn't the owner's
 abbrev pub version_in : Size → (owner : ℕ) → (counts : List ℕ) → Home → ℕ
-version_in size owner counts at = if is_group_of size owner at then slice_index_or counts (seat_of size.nodes at) 0 else 0
+version_in size owner counts at = if is_group_of size owner at then slice_index_or counts (slot_of size.nodes at) 0 else 0
 
 -- each group of the owner has a place, and at most as many versions as turns were taken
 pub record KeepsVersions (size : Size) (owner taken : ℕ) (counts : List ℕ) : Type 0 where

@@ -11,8 +11,8 @@ ghost use Rattle.partial_fib.specs.Store.{record_among, state_of};
 
 use crate::records::Records;
 use crate::refused::FibRefused;
-use crate::seat::{seat, seats};
 use crate::seen::FibSeen;
+use crate::slot::{slot, slots};
 use delta_codec::FibMessage;
 use flow_types::{Flow, FlowKey, Shape};
 use hash_family::place;
@@ -65,7 +65,7 @@ impl Fib {
             node,
             owner,
             records: handled(alloc, shape, node, owner, flows)?,
-            versions: vec![in alloc; 0; seats(shape)]?,
+            versions: vec![in alloc; 0; slots(shape)]?,
             taken: 0,
         })
     }
@@ -99,7 +99,7 @@ impl Fib {
             return Err(FibRefused::Early { have });
         }
         self.records.change(message.op)?;
-        self.versions[seat(self.shape, message.block, message.group)] += 1;
+        self.versions[slot(self.shape, message.block, message.group)] += 1;
         self.taken += 1;
         Ok(())
     }
@@ -115,7 +115,7 @@ impl Fib {
         ensures answer { result.answer ≡ (state_of self.now).records (number key) }
     {
         FibSeen {
-            version: self.versions[seat(self.shape, block, group)],
+            version: self.versions[slot(self.shape, block, group)],
             answer: self.records.find(key),
         }
     }

@@ -11,8 +11,8 @@ mod fib;
 pub mod laws;
 mod records;
 mod refused;
-mod seat;
 mod seen;
+mod slot;
 #[cfg(test)]
 mod tests;
 

@@ -15,8 +15,8 @@ overflow_add-index_mut c =
       counts = c.self.inside.versions.items;
       taken = c.self.inside.taken;
     } in
-    let is = count_of_message fib c.args.self.now message c.seat.result c.index_mut.result.now c.self.view_is c.requires c.if-message-self.false
-    c.self.invariant c.seat.ensures.value c.seat.ensures.there c.index_mut.ensures.value in
+    let is = count_of_message fib c.args.self.now message c.slot.result c.index_mut.result.now c.self.view_is c.requires c.if-message-self.false
+    c.self.invariant c.slot.ensures.value c.slot.ensures.there c.index_mut.ensures.value in
     let low = low_version fib.size fib.owner fib.taken fib.counts (group_of_message message) c.self.invariant is.own in
     omega (arith, low, is.count_is, c.if-message-have.false, c.requires.last_turn)
 
@@ -31,9 +31,9 @@ returns-clause-taken c =
       counts = c.self.inside.versions.items;
       taken = c.self.inside.taken;
     } in
-    let is = count_of_message fib c.args.self.now message c.seat.result c.index_mut.result.now c.self.view_is c.requires c.if-message-self.false
-    c.self.invariant c.seat.ensures.value c.seat.ensures.there c.index_mut.ensures.value in
-    same_turn fib message c.change.new.self (set fib.counts c.seat.result (c.index_mut.result.now + 1))
+    let is = count_of_message fib c.args.self.now message c.slot.result c.index_mut.result.now c.self.view_is c.requires c.if-message-self.false
+    c.self.invariant c.slot.ensures.value c.slot.ensures.there c.index_mut.ensures.value in
+    same_turn fib message c.change.new.self (set fib.counts c.slot.result (c.index_mut.result.now + 1))
     c.in_ok-change.ensures.changed
-    (one_more_at fib (group_of_message message) c.seat.result c.index_mut.result.now is)
+    (one_more_at fib (group_of_message message) c.slot.result c.index_mut.result.now is)
     ∙ ap (λ (f : FibStore). with_turn (state_of f) message) c.self.view_is

@@ -4,7 +4,7 @@ use Rattle.partial_fib.proofs.fib.Fib.open.Goals as goal
 pub returns : goal.returns
 returns c =
     let zeros = c.in_ok-vec.ensures.items_if_clones_equal (λ y is. is) in
-    let versions = no_versions c.args.shape c.args.owner c.seats.result c.in_ok-vec.field-0.items zeros in
+    let versions = no_versions c.args.shape c.args.owner c.slots.result c.in_ok-vec.field-0.items zeros in
     λ i. record {
       size = c.args.shape;
       node = c.args.node;
