@@ -1,0 +1,17 @@
+pub mod Cells
+pub mod Pieces
+pub mod Blocks
+pub mod Steps
+pub mod Sides
+pub mod Sharing
+pub mod Counts
+pub mod Written
+pub mod Links
+pub mod Appending
+pub mod Unlinking
+pub mod Writing
+pub mod Standing
+pub mod Changes
+pub mod Growing
+pub mod Heads
+pub mod Crossing

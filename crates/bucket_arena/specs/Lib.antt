@@ -1,0 +1,4 @@
+pub mod Piece
+pub mod Row
+pub mod Chains
+pub mod Arena
