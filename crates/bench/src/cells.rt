@@ -22,15 +22,17 @@ use std::time::{Duration, Instant};
 /// How many looks or publications each thread makes.
 const TIMES: u64 = 5_000_000;
 
-/// What a thread did: how long it took, and how many of its looks met a group that was being rewritten.
+/// What a thread did: how long it took, how many of its looks met a group that was being rewritten, and the sum of the
+/// nodes that the others found.
 #[derive(Clone, Copy)]
 struct Run {
     taken: Duration,
     changing: u64,
+    nodes: u64,
 }
 
-/// Prints a line for each thread: its name, how often it looked or published, the nanoseconds, and how many of its looks
-/// found nothing.
+/// Prints a line for each thread: its name, how often it looked or published, the nanoseconds, how many of its looks
+/// found nothing, and the sum of the nodes that the others found.
 pub fn figures<R: Print + AllocGlobal + Clock + Threads + Sync>(rt: &R) -> io::Result<()> {
     let alloc = rt.alloc();
     let Some(shape) = Shape::new(16, 256) else {
@@ -58,7 +60,7 @@ pub fn figures<R: Print + AllocGlobal + Clock + Threads + Sync>(rt: &R) -> io::R
 
 fn tell(rt: &impl Print, name: &str, run: Run) -> io::Result<()> {
     let nanos = run.taken.as_nanos();
-    println!(rt; "{name} {TIMES} {nanos} {}", run.changing)
+    println!(rt; "{name} {TIMES} {nanos} {} {}", run.changing, run.nodes)
 }
 
 fn since(rt: &impl Clock, start: io::Result<Instant>) -> Duration {
@@ -75,18 +77,21 @@ fn looks(rt: &impl Clock, table: &CellTable, mut reader: ReaderSeat) -> Run
 {
     let start = Instant::now(rt);
     let mut changing = 0u64;
+    let mut nodes = 0u64;
     'looks: for number in 0..TIMES {
         let drawn = mix(number % 262_144);
         let (block, group) = ((drawn % 256) as u16, (drawn / 256 % 64) as u8);
-        if table
-            .look(&mut reader, block, group, key(1, number))
-            .is_err()
-        {
-            changing = changing.wrapping_add(1);
+        match table.look(&mut reader, block, group, key(1, number)) {
+            Ok(look) => nodes = nodes.wrapping_add(u64::from(look.node.unwrap_or(0))),
+            Err(_) => changing = changing.wrapping_add(1),
         }
     }
     let taken = since(rt, start);
-    Run { taken, changing }
+    Run {
+        taken,
+        changing,
+        nodes,
+    }
 }
 
 /// Publishes a record for groups over the whole table.
@@ -108,7 +113,12 @@ fn publications(rt: &impl Clock, table: &CellTable, mut writer: WriterSeat) -> (
         }
     }
     let taken = since(rt, start);
-    (writer, Run { taken, changing: 0 })
+    let run = Run {
+        taken,
+        changing: 0,
+        nodes: 0,
+    };
+    (writer, run)
 }
 
 fn two_looks<R: Threads + Clock + Sync>(
