@@ -1,4 +1,3 @@
-use Rattle.std.proofs.Common.{ℕ}
 use Rattle.std.specs.Prelude.{All}
 use Rattle.flow_types.specs.declared.record.Flow.{Flow}
 use Rattle.group_search.specs.Owned.{IsOwned}
