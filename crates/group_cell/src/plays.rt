@@ -23,24 +23,30 @@ impl TableRule<u64, View, Snapshot<Opening>> for Law {
     ghost first = { λ key. first_view key.value };
 }
 
+/// The table of a `CellTable`: words of 64 bits, each with an atomic of its own.
 pub type Cells = Table<u64, View, Snapshot<Opening>, Law, Global>;
 
+/// That table as its seats see it, with what it was opened with.
 pub type Shelf = Shared<u64, View, Snapshot<Opening>, Law>;
 
+/// A seat at that table: the one writer's, or a reader's.
 pub type Place = Seat<u64, View>;
 
+/// The writer loads a word, and learns that it is what its seat says.
 pub struct Ask;
 
 impl Play<u64, View> for Ask {
     ghost then = { Asks };
 }
 
+/// The writer stores an odd sequence word: from here to the end the group's data may be torn.
 pub struct Begin;
 
 impl Play<u64, View> for Begin {
     ghost then = { Begins };
 }
 
+/// The writer stores a word of data, a row or a tag.
 pub struct Store;
 
 impl Play<u64, View> for Store {
@@ -56,6 +62,7 @@ impl Naming for Brand {
     ghost content = { Served [] };
 }
 
+/// The writer stores the next even sequence word: the record that `C` names is published.
 pub struct End<C> {
     content: PhantomData<C>,
 }
@@ -64,18 +71,21 @@ impl<C: Naming> Play<u64, View> for End<C> {
     ghost then = { Ends C.content };
 }
 
+/// A reader loads a sequence word, and sees all that is published by then.
 pub struct StartLook;
 
 impl Play<u64, View> for StartLook {
     ghost then = { StartsLook };
 }
 
+/// A reader loads a word of data, a row or a tag.
 pub struct Load;
 
 impl Play<u64, View> for Load {
     ghost then = { Loads };
 }
 
+/// A reader loads the sequence word again: where it is the even one it began with, all that it loaded is of that version.
 pub struct EndLook;
 
 impl Play<u64, View> for EndLook {

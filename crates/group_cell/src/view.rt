@@ -66,8 +66,10 @@ pub struct ReaderView {
     pub last: Option<Sight>,
 }
 
+/// What a seat knows of the table.
 pub enum View {
     Writer(WriterView),
     Reader(ReaderView),
+    /// Nothing any more: what it had seen went to another seat.
     Spent,
 }

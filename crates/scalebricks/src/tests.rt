@@ -15,6 +15,7 @@ const ROOM: usize = 1000;
 /// A row of input and the output, each line ended by a line feed.
 type Case<'a> = (&'a str, u8, &'a str);
 
+/// The program's words, where there is one.
 pub fn one_word(alloc: Global, word: &str) -> Result<Vec<String>, Fail> {
     Ok(vec![in alloc; String::from_str(alloc, word)?]?)
 }
