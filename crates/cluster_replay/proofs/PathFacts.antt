@@ -30,12 +30,11 @@ both true b e = (refl, e)
 both false b e = absurd cc
 
 module _ (node : ℕ) (key : FlowKey) where
-  flow_with : Record → Flow
+  abbrev pub flow_with : Record → Flow
   flow_with info = record { key = key; node = node; info = info }
 
   -- a flow of this key at this node
   handled_is : (flow : Flow) → is_handled node key flow ≡ true → flow ≡ flow_with flow.info
-  unfolding flow_with
   handled_is flow is =
       let tests = both (flow.node == node) (same_key flow.key key) is in
       let same_node = eqb-true flow.node node tests.0 in
@@ -43,11 +42,10 @@ module _ (node : ℕ) (key : FlowKey) where
       λ i. record { key = same i; node = same_node i; info = flow.info }
 
   handled_with : (info : Record) → is_handled node key (flow_with info) ≡ true
-  unfolding flow_with
   handled_with info = let keys = same_key-refl key in grind (arith, keys)
 
   -- the record that is found is that of a flow with this key at this node
-  found : (flows : List Flow) (info : Record) → fib_record node flows key ≡ Some info → Contains flows (flow_with info)
+  pub found : (flows : List Flow) (info : Record) → fib_record node flows key ≡ Some info → Contains flows (flow_with info)
   unfolding fib_record
   found flows info e = by (find (is_handled node key) flows) refl e
     where
@@ -59,7 +57,7 @@ module _ (node : ℕ) (key : FlowKey) where
           subst (Contains flows) (handled_is flow there.1 ∙ ap flow_with same) there.0
 
   -- where none is found, none of the flows has this key at this node
-  missing : (flows : List Flow) → fib_record node flows key ≡ None → (info : Record) → ¬ Contains flows (flow_with info)
+  pub missing : (flows : List Flow) → fib_record node flows key ≡ None → (info : Record) → ¬ Contains flows (flow_with info)
   unfolding fib_record
   missing flows e info there = by (find (is_handled node key) flows) refl e
     where
@@ -101,7 +99,6 @@ module _ (state : State) (handled : AreHandled state.size.nodes state.flows) (re
 
   answered : (node : ℕ) (said : Option Record) → fib_record node state.flows key ≡ said → routed state.size state.flows key ≡ Some node
       → Path state.size.nodes (AtOpening state key) key (answer node 0 0 said)
-  unfolding flow_with
   answered node (Some info) is sent =
       (group, group, now, now, route (Some node) sent, of_group node info (found node key state.flows info is))
   answered node None is sent =

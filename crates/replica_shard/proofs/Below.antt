@@ -18,7 +18,7 @@ use Rattle.group_search.specs.Decoding.{as_node, decode, node_of, value_of}
 use Rattle.group_search.specs.Home.{home, is_home, opening}
 use Rattle.group_search.specs.Records.{AreHandled, content_of, entries, entry_of, record_of}
 use Rattle.group_search.specs.Rows.{key_number, put_row, row_of, rows_of}
-use Rattle.replica_shard.specs.Routed.{routed}
+use Rattle.replica_shard.specs.Routed.{decoded, routed}
 
 module _ (nodes : ℕ) where
   -- each row's node is one of them
@@ -72,9 +72,15 @@ module _ (nodes : ℕ) where
     unfolding content_of canonical
     content_below is = canonical_below (least_pairs (value_bits nodes) 0 (entries flows)) is
 
+-- nor does their record, whatever they are
+pub decoded_below : (size : Size) (flows : List Flow) (key : FlowKey) (node : ℕ) → AreHandled size.nodes flows
+    → decoded size key (content_of size.nodes flows) ≡ Some node → node < size.nodes
+unfolding gives
+decoded_below size flows key node handled is = content_below size.nodes flows handled key node is
+
 pub routed_below : (size : Size) (flows : List Flow) (key : FlowKey) (node : ℕ) → AreHandled size.nodes flows → routed size flows key ≡ Some node → node < size.nodes
-unfolding routed record_of opening gives
+unfolding routed record_of opening
 routed_below size flows key node handled is =
-    content_below size.nodes (opening size.blocks flows (home size.blocks flows key))
+    decoded_below size (opening size.blocks flows (home size.blocks flows key)) key node
     (All-filter (λ (other : Flow). is_home (home size.blocks flows other.key) (home size.blocks flows key)) (λ (flow : Flow). flow.node < size.nodes) flows handled)
-    key node is
+    is

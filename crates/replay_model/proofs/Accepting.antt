@@ -1,0 +1,79 @@
+-- What an update makes of the journals.
+use Rattle.std.proofs.Common.{◌≡◌, ◌≢◌, ◌∙◌, ◌<◌, ◌≤◌, ℕ, List, [], ◌∷◌, ◌++◌, length, get_or, set, Option, Some, None, ⊎_elim, refl, sym, ap, subst, arith}
+use Rattle.std.proofs.lemmas.Bool.{cases_eq, cases_lt}
+use Rattle.std.proofs.lemmas.List.{get_or-set_other, get_or-set_same, set_past, take_all}
+use Rattle.group_history.specs.declared.change.Change.{Change}
+use Rattle.packet_reader.specs.declared.event.Event.{Event}
+use Rattle.packet_reader.specs.declared.event.Event.TheVariants.{Set, Del, Packet, Carry, Sync}
+use Rattle.rib_owner.specs.declared.update.Update.{Update}
+use Rattle.rib_owner.specs.declared.update.Update.TheVariants as update
+use Rattle.rib_owner.specs.declared.refused.UpdateRefused.{UpdateRefused}
+use Rattle.rib_owner.specs.Acceptance.{change_of}
+use Rattle.replay_model.specs.Allowed.{phase_end}
+use Rattle.replay_model.specs.State.{Journals, ClusterOpening, journal_of}
+use Rattle.replay_model.specs.Updates.{after_update, journals_by, update_owner, verdict}
+use Rattle.replay_model.proofs.Cuts.{Grows, grows-by, grows-not, grows-on}
+use Rattle.replay_model.proofs.Maps.{AreSound, AreSoundAlong, IsHandled, along-more, sound-more}
+
+-- what holds of the journals of an update's owner, before it and with it, and of journals that stay, holds of all
+pushed : (Holds : List Change → Type 0) (journals : Journals) (at owner : ℕ) (change : Change) → Holds (journal_of journals at)
+    → (owner ≡ at → Holds (journal_of journals owner ++ change ∷ [])) → Holds (journal_of (set journals owner (journal_of journals owner ++ change ∷ [])) at)
+pushed Holds journals at owner change stays longer =
+    ⊎_elim
+    (λ (same : at ≡ owner).
+    ⊎_elim
+    (λ (within : owner < length journals).
+    subst Holds (sym (ap (λ (o : ℕ). get_or (set journals owner (journal_of journals owner ++ change ∷ [])) o []) same
+    ∙ get_or-set_same journals owner (journal_of journals owner ++ change ∷ []) [] within))
+    (longer (sym same)))
+    (λ (past : length journals ≤ owner).
+    subst Holds (sym (ap (λ (js : Journals). journal_of js at) (set_past journals owner (journal_of journals owner ++ change ∷ []) past))) stays)
+    (cases_lt owner (length journals)))
+    (λ (other : at ≢ owner).
+    subst Holds (sym (get_or-set_other journals owner at (journal_of journals owner ++ change ∷ []) [] other)) stays)
+    (cases_eq at owner)
+
+module _ (opened : ClusterOpening) where
+  grows-case : (journals : Journals) (owner at : ℕ) (change : Change) (why : Option UpdateRefused) → Grows (journal_of journals at) (journal_of (journals_by journals owner change why) at)
+  grows-case journals owner at change None =
+      pushed (Grows (journal_of journals at)) journals at owner change (grows-not (journal_of journals at))
+      (λ same. subst (λ (o : ℕ). Grows (journal_of journals o) (journal_of journals owner ++ change ∷ [])) same (grows-by (journal_of journals owner) (change ∷ [])))
+  grows-case journals owner at change (Some refused) = grows-not (journal_of journals at)
+
+  -- an update takes nothing from a journal
+  pub update-grows : (journals : Journals) (update : Update) (owner : ℕ) → Grows (journal_of journals owner) (journal_of (after_update opened journals update) owner)
+  unfolding after_update
+  update-grows journals update owner =
+      grows-case journals (update_owner opened update) owner (change_of opened.size opened.flows update) (verdict opened journals update)
+
+  -- nor do the events up to the end of a phase
+  pub phase-grows : (script : List Event) (journals : Journals) (owner : ℕ) → Grows (journal_of journals owner) (journal_of (phase_end opened journals script) owner)
+  unfolding phase_end
+  phase-grows [] journals owner = grows-not (journal_of journals owner)
+  phase-grows (Set flow ∷ script) journals owner =
+      grows-on _ _ _ (update-grows journals (update.Set flow) owner) (phase-grows script (after_update opened journals (update.Set flow)) owner)
+  phase-grows (Del key ∷ script) journals owner =
+      grows-on _ _ _ (update-grows journals (update.Del key) owner) (phase-grows script (after_update opened journals (update.Del key)) owner)
+  phase-grows (Packet ingress key ∷ script) journals owner = phase-grows script journals owner
+  phase-grows (Carry node of turn part ∷ script) journals owner = phase-grows script journals owner
+  phase-grows (Sync ∷ script) journals owner = grows-not (journal_of journals owner)
+
+  -- each group has a sound map along each journal
+  abbrev pub AreSoundJournals : Journals → Type 0
+  AreSoundJournals journals = (owner : ℕ) → AreSoundAlong opened.size opened.flows (journal_of journals owner)
+
+  sound-case : (journals : Journals) (update : Update) (at : ℕ) (why : Option UpdateRefused) → verdict opened journals update ≡ why → IsHandled opened.size.nodes update
+      → AreSoundJournals journals
+      → AreSoundAlong opened.size opened.flows (journal_of (journals_by journals (update_owner opened update) (change_of opened.size opened.flows update) why) at)
+  sound-case journals update at None accepted handled sounds =
+      let owner = update_owner opened update in
+      let journal = journal_of journals owner in
+      pushed (AreSoundAlong opened.size opened.flows) journals at owner (change_of opened.size opened.flows update) (sounds at)
+      (λ same. along-more opened.size opened.flows journal (change_of opened.size opened.flows update) (sounds owner)
+      (sound-more opened.size opened.flows update handled journal
+      (subst (AreSound opened.size opened.flows) (take_all (length journal) journal (omega arith)) (sounds owner (length journal))) accepted))
+  sound-case journals update at (Some refused) why handled sounds = sounds at
+
+  pub update-sound : (journals : Journals) (update : Update) → IsHandled opened.size.nodes update → AreSoundJournals journals → AreSoundJournals (after_update opened journals update)
+  unfolding after_update
+  update-sound journals update handled sounds owner = sound-case journals update owner (verdict opened journals update) refl handled sounds

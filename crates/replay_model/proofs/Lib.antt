@@ -1,0 +1,10 @@
+pub mod Cuts
+pub mod Maps
+pub mod Accepting
+pub mod Taking
+pub mod Firsts
+pub mod Answering
+pub mod Replays
+pub mod OneVersion
+pub mod Records
+pub mod NeverBack

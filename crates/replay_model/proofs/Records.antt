@@ -1,0 +1,62 @@
+-- In a replay each packet goes where the canonical record of its key's group sends it.
+use Rattle.std.proofs.Common.{◌≡◌, ℕ, List, [], ◌∷◌, Option, Some, None, refl}
+use Rattle.flow_types.specs.declared.key.FlowKey.{FlowKey}
+use Rattle.flow_types.specs.declared.record.Record.{Record}
+use Rattle.group_history.specs.declared.change.Change.{Change}
+use Rattle.packet_reader.specs.declared.event.Event.{Event}
+use Rattle.packet_reader.specs.declared.event.Event.TheVariants.{Set, Del, Packet, Carry, Sync}
+use Rattle.rib_owner.specs.Rib.{map_now}
+use Rattle.replay_model.specs.Allowed.{phase_end}
+use Rattle.replay_model.specs.Laws.{ReplaysGoByRecords}
+use Rattle.replay_model.specs.Packets.{answer_of, first_changes, packet_reply, fib_record_after, reply_sent, routed_after, version_after}
+use Rattle.replay_model.specs.Replaying.{fresh, replayed_with_updates, replies_from, reply_in, state_after}
+use Rattle.replay_model.specs.State.{Journals, ClusterOpening, ClusterState, Taken, fib_turns, home_of_key, journal_of, owner_of_group, table_turns}
+use Rattle.replay_model.specs.Told.{EachPacket, GoesByRecord, RoutesBy}
+use Rattle.replay_model.proofs.Accepting.{phase-grows}
+use Rattle.replay_model.proofs.Cuts.{Grows}
+use Rattle.replay_model.proofs.Firsts.{at-first}
+
+module _ (opened : ClusterOpening) (journals end : Journals) (key : FlowKey) (turns : ℕ) (here : ℕ → List Change)
+    (grows : Grows (journal_of journals (owner_of_group opened (home_of_key opened key))) (journal_of end (owner_of_group opened (home_of_key opened key)))) where
+  abbrev there : List Change
+  there = first_changes opened journals key turns
+
+  routes : (to : Option ℕ) → routed_after opened there key ≡ to → RoutesBy opened end key (version_after opened there key) to
+  unfolding routed_after
+  routes to is = record {
+    flows = map_now opened.size opened.flows there (home_of_key opened key);
+    at = at-first opened _ _ grows key turns;
+    sends = is;
+  }
+
+  answered : (node fib : ℕ) (said : Option Record) → routed_after opened there key ≡ Some node
+      → GoesByRecord opened end key (answer_of node (version_after opened there key) fib said)
+  answered node fib (Some info) is = routes (Some node) is
+  answered node fib None is = routes (Some node) is
+
+  pub goes : (to : Option ℕ) → routed_after opened there key ≡ to → GoesByRecord opened end key (reply_sent opened there here key to)
+  goes (Some node) is = answered node (version_after opened (here node) key) (fib_record_after opened (here node) node key) is
+  goes None is = routes None is
+
+packet-goes : (opened : ClusterOpening) (journals end : Journals) (nodes : List Taken) (ingress : ℕ) (key : FlowKey)
+    → Grows (journal_of journals (owner_of_group opened (home_of_key opened key))) (journal_of end (owner_of_group opened (home_of_key opened key)))
+    → GoesByRecord opened end key (packet_reply opened journals nodes ingress key)
+unfolding packet_reply
+packet-goes opened journals end nodes ingress key grows =
+    let owner = owner_of_group opened (home_of_key opened key) in
+    goes opened journals end key (table_turns nodes ingress owner) (λ (node : ℕ). first_changes opened journals key (fib_turns nodes node owner)) grows
+    (routed_after opened (first_changes opened journals key (table_turns nodes ingress owner)) key) refl
+
+all-go : (script : List Event) (state : ClusterState) → EachPacket state.opened (GoesByRecord state.opened) state.journals script (replies_from state script)
+unfolding replies_from reply_in state_after
+all-go [] state = tt
+all-go (Set flow ∷ script) state = all-go script (state_after state (Set flow))
+all-go (Del key ∷ script) state = all-go script (state_after state (Del key))
+all-go (Packet ingress key ∷ script) state =
+    (packet-goes state.opened state.journals (phase_end state.opened state.journals script) state.nodes ingress key (phase-grows state.opened script state.journals _), all-go script state)
+all-go (Carry node owner turn part ∷ script) state = all-go script (state_after state (Carry node owner turn part))
+all-go (Sync ∷ script) state = all-go script (state_after state Sync)
+
+pub replays_go_by_records : ReplaysGoByRecords
+unfolding replayed_with_updates fresh
+replays_go_by_records opened script = all-go script (fresh opened)

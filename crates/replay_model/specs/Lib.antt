@@ -1,0 +1,9 @@
+pub mod State
+pub mod Updates
+pub mod Packets
+pub mod Carrying
+pub mod Replaying
+pub mod Allowed
+pub mod Told
+pub mod Lanes
+pub mod Laws

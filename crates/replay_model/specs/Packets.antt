@@ -1,0 +1,47 @@
+-- What becomes of a packet.
+use Rattle.std.specs.Prelude.{ℕ, List, take, Option, Some, None}
+use Rattle.flow_types.specs.declared.key.FlowKey.{FlowKey}
+use Rattle.flow_types.specs.declared.record.Record.{Record}
+use Rattle.group_search.specs.Records.{content_of}
+use Rattle.group_history.specs.declared.change.Change.{Change}
+use Rattle.group_history.specs.Journal.{change_count}
+use Rattle.rib_owner.specs.Rib.{map_now}
+use Rattle.replica_shard.specs.Routed.{decoded}
+use Rattle.cluster_replay.specs.Replies.{fib_record}
+use Rattle.replay_model.specs.declared.reply.Reply.{Reply}
+use Rattle.replay_model.specs.declared.reply.Reply.TheVariants.{Found, Unknown, Nowhere}
+use Rattle.replay_model.specs.State.{Journals, ClusterOpening, Taken, fib_turns, home_of_key, journal_of, owner_of_group, table_turns}
+
+-- the node that the canonical record of the key's group gives it, after these changes of the group's owner
+unfoldable pub routed_after : ClusterOpening → List Change → FlowKey → Option ℕ
+routed_after opened changes key =
+    decoded opened.size key (content_of opened.size.nodes (map_now opened.size opened.flows changes (home_of_key opened key)))
+
+-- the record that a node has of the key, after these changes
+unfoldable pub fib_record_after : ClusterOpening → List Change → (node : ℕ) → FlowKey → Option Record
+fib_record_after opened changes node key = fib_record node (map_now opened.size opened.flows changes (home_of_key opened key)) key
+
+-- the first changes of the key's owner
+abbrev pub first_changes : ClusterOpening → Journals → FlowKey → (turns : ℕ) → List Change
+first_changes opened journals key turns = take turns (journal_of journals (owner_of_group opened (home_of_key opened key)))
+
+-- the version of the key's group after these changes
+abbrev pub version_after : ClusterOpening → List Change → FlowKey → ℕ
+version_after opened changes key = change_count (home_of_key opened key) changes
+
+abbrev pub answer_of : (node seen fib : ℕ) → Option Record → Reply
+answer_of node seen fib (Some info) = Found node seen fib info
+answer_of node seen fib None = Unknown node seen fib
+
+-- the reply to a packet, where its ingress has these changes and the node that it is sent to has those
+abbrev pub reply_sent : ClusterOpening → (there : List Change) → (here : ℕ → List Change) → FlowKey → Option ℕ → Reply
+reply_sent opened there here key None = Nowhere (version_after opened there key)
+reply_sent opened there here key (Some node) =
+    answer_of node (version_after opened there key) (version_after opened (here node) key) (fib_record_after opened (here node) node key)
+
+-- the reply to a packet: the ingress's table sends it by the turns that it has taken, and the node's FIB answers by its own
+unfoldable pub packet_reply : ClusterOpening → Journals → List Taken → (ingress : ℕ) → FlowKey → Reply
+packet_reply opened journals nodes ingress key =
+    let owner = owner_of_group opened (home_of_key opened key) in
+    let there = first_changes opened journals key (table_turns nodes ingress owner) in
+    reply_sent opened there (λ (node : ℕ). first_changes opened journals key (fib_turns nodes node owner)) key (routed_after opened there key)

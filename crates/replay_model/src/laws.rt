@@ -1,0 +1,36 @@
+//! What holds of every replay. Each law is a function that does nothing, whose contract says it.
+
+ghost use Rattle.replay_model.specs.Laws.{NoLaneGoesBack, NodesTakePrefixes, OneVersionTells, ReplaysAreAllowed, ReplaysGoByRecords};
+
+/// The replies of a replay are allowed by the model: each packet goes by one version of its phase, and no lane goes back.
+#[tactic(auto, using(crate::proofs::Replays::replays_are_allowed))]
+pub fn replays_are_allowed()
+    ensures { ReplaysAreAllowed }
+{}
+
+/// What a node's table and its own records have taken of an owner's turns is a prefix of them, in whatever order and however
+/// often messages are carried.
+#[tactic(auto, using(crate::proofs::Replays::nodes_take_prefixes))]
+pub fn nodes_take_prefixes()
+    ensures { NodesTakePrefixes }
+{}
+
+/// Where the ingress and the node that answers stand at one version of the key's group, a known flow is found at its
+/// handler, in at most one hop and with its record, and only a key that the group doesn't have is unknown.
+#[tactic(auto, using(crate::proofs::OneVersion::one_version_tells))]
+pub fn one_version_tells()
+    ensures { OneVersionTells }
+{}
+
+/// No lane goes back: for one lane, ingress and group the version seen never falls, nor for one lane, answering node and
+/// group the version of the FIB.
+#[tactic(auto, using(crate::proofs::NeverBack::no_lane_goes_back))]
+pub fn no_lane_goes_back()
+    ensures { NoLaneGoesBack }
+{}
+
+/// In a replay each packet goes where the canonical record of its key's group sends it, whether or not its flow is known.
+#[tactic(auto, using(crate::proofs::Records::replays_go_by_records))]
+pub fn replays_go_by_records()
+    ensures { ReplaysGoByRecords }
+{}
