@@ -24,14 +24,14 @@ ok_or-some : (o : Option ℕ) (reason : Why) (n : ℕ) → ok_or o reason ≡ Ok
 ok_or-some None reason n e = cc e
 ok_or-some (Some m) reason n e = cc e
 
-number-most : (max : ℕ) (text : Field) (n : ℕ) → number_field max text ≡ Ok n → n ≤ max
+pub number-most : (max : ℕ) (text : Field) (n : ℕ) → number_field max text ≡ Ok n → n ≤ max
 number-most max text n e = (read_is_decimal max n text (ok_or-some (number_value max text) why.Number n e)).bounded
 
 address-bits : (text : Field) (n : ℕ) → address_field text ≡ Ok n → n < 2 ^ 32
 address-bits text n e = read_has_32_bits n text (ok_or-some (address_value text) why.Address n e)
 
 -- a node that was read is one of the nodes
-below-nodes : (nodes node : ℕ) (o : Result ℕ Why) → and_then o (one_of nodes) ≡ Ok node → node < nodes
+pub below-nodes : (nodes node : ℕ) (o : Result ℕ Why) → and_then o (one_of nodes) ≡ Ok node → node < nodes
 below-nodes nodes node (Err reason) e = cc e
 below-nodes nodes node (Ok n) e = by (nat_lt n nodes) refl e
   where
@@ -53,7 +53,7 @@ key-parts (Ok a) (Ok b) (Ok c) (Ok d) (Ok f) key e =
     let made : key ≡ record { source = a; destination = b; source_port = c; destination_port = d; protocol = f } = cc e in
     rw made (refl, refl, refl, refl, refl)
 
-key-fields : (place : ℕ) (row : Row) (key : FlowKey) → key_at place row ≡ Ok key → HasFields key
+pub key-fields : (place : ℕ) (row : Row) (key : FlowKey) → key_at place row ≡ Ok key → HasFields key
 unfolding key_at
 key-fields place row key e =
     let parts = key-parts (address_field (field_at row place)) (address_field (field_at row (place + 1))) (number_field 65535 (field_at row (place + 2)))
@@ -86,7 +86,7 @@ flow-parts (Ok k) (Ok n) (Ok t) (Ok b) flow e =
     let made : flow ≡ record { key = k; node = n; info = record { teid = t; base = b } } = cc e in
     rw made (refl, refl)
 
-flow-fits : (nodes : ℕ) (row : Row) (flow : Flow) → flow_of nodes row ≡ Ok flow → Fits nodes flow
+pub flow-fits : (nodes : ℕ) (row : Row) (flow : Flow) → flow_of nodes row ≡ Ok flow → Fits nodes flow
 unfolding flow_of
 flow-fits nodes row flow e =
     let parts = flow-parts (key_at 1 row) (node_field nodes (field_at row 6)) (number_field 4294967295 (field_at row 7)) (address_field (field_at row 8)) flow e in

@@ -1,6 +1,7 @@
 -- The rows up to `begin`: the shape of a cluster, and its flows.
 use Rattle.std.specs.Prelude.{ℕ, ◌+◌, ◌==◌, ◌&&◌, nat_le, Bool, if◌then◌else◌, List, [], ◌∷◌, ◌++◌, length, map, Option, Some, None, Result, Ok, Err, codes}
 use Rattle.std.specs.List.{list_any}
+use Rattle.flow_types.specs.Key.{same_key}
 use Rattle.flow_types.specs.Size.{Size, fewest_blocks, fewest_nodes, most_blocks, most_nodes}
 use Rattle.flow_types.specs.declared.key.FlowKey.{FlowKey}
 use Rattle.flow_types.specs.declared.record.Flow.{Flow}
@@ -46,12 +47,6 @@ later_row nodes row =
     if is_kind (codes "flow") row then with_fields 9 row (some_flow (flow_of nodes row))
     else if is_kind (codes "begin") row then with_fields 1 row (Ok None)
     else Err why.Kind
-
--- whether two keys are the same
-abbrev pub same_key : FlowKey → FlowKey → Bool
-same_key a b =
-    (a.source == b.source) && ((a.destination == b.destination)
-    && ((a.source_port == b.source_port) && ((a.destination_port == b.destination_port) && (a.protocol == b.protocol))))
 
 abbrev pub keys_of : List Flow → List FlowKey
 keys_of flows = map (λ flow. flow.key) flows

@@ -7,4 +7,5 @@ pub mod KeyedFlows
 pub mod Numerals
 pub mod Octets
 pub mod Reading
+pub mod SameKeys
 pub mod ValueBits

@@ -1,5 +1,5 @@
--- A flow key as one number, and as its octets.
-use Rattle.std.specs.Prelude.{ℕ, ◌+◌, ◌*◌, ◌/◌, ◌%◌, ◌^◌, List}
+-- A flow key as one number, and as its octets; when two keys are the same.
+use Rattle.std.specs.Prelude.{ℕ, ◌+◌, ◌*◌, ◌/◌, ◌%◌, ◌^◌, ◌==◌, ◌&&◌, Bool, List}
 use Rattle.std.specs.Int.{bytes_high_first}
 use Rattle.flow_types.specs.declared.key.FlowKey.{FlowKey}
 
@@ -20,3 +20,9 @@ key_of n = record {
 -- the 13 octets of a key's number, the greatest first
 unfoldable pub octets : FlowKey → List ℕ
 octets k = bytes_high_first 13 (number k)
+
+-- whether two keys are the same
+abbrev pub same_key : FlowKey → FlowKey → Bool
+same_key a b =
+    (a.source == b.source) && ((a.destination == b.destination)
+    && ((a.source_port == b.source_port) && ((a.destination_port == b.destination_port) && (a.protocol == b.protocol))))

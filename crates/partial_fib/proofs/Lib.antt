@@ -2,3 +2,4 @@ pub mod KeyNumbers
 pub mod Places
 pub mod TurnFacts
 pub mod Handled
+pub mod MapAnswers

@@ -1,5 +1,5 @@
-pub mod Key
 pub mod Op
 pub mod Fib
 pub mod Message
 pub mod Store
+pub mod Answering

@@ -4,10 +4,9 @@ use Rattle.std.specs.Prelude.{ℕ, ◌≡◌, ◌==◌, ◌&&◌, ◌+◌, ◌-�
 use Rattle.std.specs.Map.{lookup}
 use Rattle.flow_types.specs.declared.key.FlowKey.{FlowKey}
 use Rattle.flow_types.specs.declared.record.Record.{Record}
-use Rattle.flow_types.specs.Key.{key_of}
+use Rattle.flow_types.specs.Key.{key_of, same_key}
 use Rattle.flow_types.specs.Size.{Size}
 use Rattle.group_search.specs.Home.{Home}
-use Rattle.partial_fib.specs.Key.{have_same_fields}
 use Rattle.partial_fib.specs.Fib.{FibState}
 
 -- what a contract sees of a FIB
@@ -21,7 +20,7 @@ pub record FibStore : Type 0 where
 
 -- the record of the key of a number
 abbrev pub record_among : List (FlowKey × Record) → (key : ℕ) → Option Record
-record_among entries key = lookup (have_same_fields (key_of key)) entries
+record_among entries key = lookup (same_key (key_of key)) entries
 
 -- the group is one of a block of the owner
 abbrev pub is_group_of : Size → (owner : ℕ) → Home → Bool

@@ -4,7 +4,8 @@
 //! so many turns, `specs/Op.antt` what a change means for a node, and `specs/Message.antt` the messages that tell it so.
 //! `Fib::open` and `Fib::apply` take memory.
 //! Proved: each call's exact answer, but that want of memory may come at any time; after a refusal nothing has changed; a
-//! FIB that took its owner's first turns is the FIB after these turns. Only tested: that memory suffices.
+//! FIB that took its owner's first turns is the FIB after these turns, and has of a key what its node answers by the map of
+//! the key's group. Only tested: that memory suffices.
 #![tactic(auto)]
 
 mod fib;
