@@ -1,6 +1,5 @@
--- What a table says of a key, where its images are those that the flows of a cluster give.
-use Rattle.std.proofs.Common.{◌≡◌, ℕ, ◌+◌, ◌*◌, ◌/◌, ◌%◌, ◌<◌, ◌≤◌, List, [], length, Some, ◌∙◌, ap, arith}
-use Rattle.std.specs.List.{slice_get}
+-- What the images say that the flows of a cluster give.
+use Rattle.std.proofs.Common.{◌≡◌, ℕ, ◌<◌, ◌≤◌, List, [], length, Some, ◌∙◌, arith}
 use Rattle.std.specs.Prelude.{slice_index_or}
 use Rattle.std.proofs.lemmas.Option.{slice_get-get_or}
 use Rattle.std.specs.Prelude.{All}
@@ -19,69 +18,24 @@ use Rattle.group_search.specs.declared.record.GroupRecord.{GroupRecord}
 use Rattle.group_search.specs.declared.record.GroupRecord.TheVariants.{Fallback}
 use Rattle.group_search.specs.Records.{AreHandled, record_of}
 use Rattle.group_search.proofs.EachFlow.{routes_each_flow}
-use Rattle.replica_shard.specs.Routed.{decoded, routed}
-use Rattle.group_search.specs.Owned.{IsOwned}
-use Rattle.replica_shard.specs.Table.{AreImagesOf, IsTableOf, home_in, group_record_in}
+use Rattle.replica_shard.specs.Routed.{routed}
 
-abbrev no_image : Image
+abbrev pub no_image : Image
 no_image = record { choices = []; records = [] }
 
 abbrev no_record : GroupRecord
 no_record = Fallback []
 
-abbrev image_at : List Image → ℕ → Image
+abbrev pub image_at : List Image → ℕ → Image
 image_at images block = slice_index_or images block no_image
 
-group_below : (bucket choice : ℕ) → candidate bucket choice < group_count
+pub group_below : (bucket choice : ℕ) → candidate bucket choice < group_count
 unfolding candidate
 group_below bucket choice = omega arith
 
-block_below : (blocks : ℕ) (key : FlowKey) → 1 ≤ blocks → (place blocks key).block < blocks
+pub block_below : (blocks : ℕ) (key : FlowKey) → 1 ≤ blocks → (place blocks key).block < blocks
 unfolding place
 block_below blocks key some = omega arith
-
--- a block stands in its owner's table where it is dealt to it
-block_of_its_place : (nodes owner block : ℕ) → 1 ≤ nodes → block % nodes ≡ owner → owner + nodes * (block / nodes) ≡ block
-block_of_its_place nodes owner block some is = omega arith
-
-image_there : (size : Size) (flows : List Flow) (owner : ℕ) (images owned : List Image) (block : ℕ) → 1 ≤ size.nodes → IsBuild size flows images
-    → AreImagesOf size.nodes owner images owned → block < size.blocks → block % size.nodes ≡ owner → slice_get owned (block / size.nodes) ≡ Some (image_at images block)
-image_there size flows owner images owned block some build dealt below owns =
-    let one_each = build.one_each in
-    let within : block < length images = omega arith in
-    dealt.each (block / size.nodes) ∙ ap (slice_get images) (block_of_its_place size.nodes owner block some owns) ∙ slice_get-get_or images block no_image within
-
-home_there : (size : Size) (flows : List Flow) (owner : ℕ) (images owned : List Image) (key : FlowKey) → 1 ≤ size.nodes → 1 ≤ size.blocks → IsBuild size flows images
-    → AreImagesOf size.nodes owner images owned → IsOwned size owner key → home_in (record { size = size; owner = owner; images = owned }) key ≡ Some (home size.blocks flows key)
-unfolding home
-home_there size flows owner images owned key some blocks build dealt owns =
-    let block = (place size.blocks key).block in
-    let below : block < size.blocks = block_below size.blocks key blocks in
-    let there : slice_get owned (block / size.nodes) ≡ Some (image_at images block) = image_there size flows owner images owned block some build dealt below owns in
-    let chosen = (build.each block no_image below).choices in
-    rw there (ap (λ (choices : List ℕ). Some (record { block = block; group = group_of choices (place size.blocks key).bucket })) chosen)
-
-record_there : (size : Size) (flows : List Flow) (owner : ℕ) (images owned : List Image) (key : FlowKey) → 1 ≤ size.nodes → 1 ≤ size.blocks → IsBuild size flows images
-    → AreImagesOf size.nodes owner images owned → IsOwned size owner key → group_record_in (record { size = size; owner = owner; images = owned }) key ≡ record_of size flows (home size.blocks flows key)
-unfolding home
-record_there size flows owner images owned key some blocks build dealt owns =
-    let block = (place size.blocks key).block in
-    let bucket = (place size.blocks key).bucket in
-    let below : block < size.blocks = block_below size.blocks key blocks in
-    let there : slice_get owned (block / size.nodes) ≡ Some (image_at images block) = image_there size flows owner images owned block some build dealt below owns in
-    let image = build.each block no_image below in
-    let group = group_of (image_at images block).choices bucket in
-    let stands = image.records group (group_below bucket _) in
-    rw there (stands ∙ ap (λ (choices : List ℕ). record_of size flows (record { block = block; group = group_of choices bucket })) image.choices)
-
-pub table_of_build : (size : Size) (flows : List Flow) (owner : ℕ) (images owned : List Image) → 1 ≤ size.nodes → 1 ≤ size.blocks
-    → AreImagesOf size.nodes owner images owned → IsBuild size flows images → IsTableOf size flows owner (record { size = size; owner = owner; images = owned })
-unfolding routed
-table_of_build size flows owner images owned some blocks dealt build = record {
-  homes = λ key owns. home_there size flows owner images owned key some blocks build dealt owns;
-  records = λ key owns. record_there size flows owner images owned key some blocks build dealt owns;
-  routes = λ key owns. ap (decoded size key) (record_there size flows owner images owned key some blocks build dealt owns);
-}
 
 -- the record of a key's home is there
 record_is : (size : Size) (flows : List Flow) (images : List Image) (key : FlowKey) → 1 ≤ size.blocks → IsBuild size flows images

@@ -1,3 +1,10 @@
+pub mod Sums
+pub mod Places
+pub mod BlockRows
 pub mod Dealt
 pub mod Built
 pub mod Below
+pub mod OwnedBlocks
+pub mod Opened
+pub mod Room
+pub mod TurnFacts

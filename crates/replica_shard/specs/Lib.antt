@@ -1,2 +1,5 @@
 pub mod Routed
-pub mod Table
+pub mod Message
+pub mod Shard
+pub mod Store
+pub mod Turns

@@ -1,6 +1,8 @@
-//! What holds of where flows send keys. Each law is a function that does nothing, whose contract says it.
+//! What holds of where flows send keys, and of the turns of an owner. Each law is a function that does nothing, whose
+//! contract says it.
 
 ghost use Rattle.replica_shard.specs.Routed.{BuildReachesHandlers, StaysInCluster};
+ghost use Rattle.replica_shard.specs.Turns.{HomesStay, RoutesFollowChanges, TableTurnsGoOn, TurnsMakeTable};
 
 /// Where the flows can be built, the key of each flow is sent to the flow's handler.
 #[tactic(auto, using(crate::proofs::Built::routed_to_handlers))]
@@ -12,4 +14,21 @@ pub fn build_reaches_handlers()
 #[tactic(auto, using(crate::proofs::Below::routed_below))]
 pub fn routes_stay_in_the_cluster()
     ensures { StaysInCluster }
+{}
+
+/// By the message of a change, a shard before the change becomes the shard after it.
+pub fn a_turn_goes_on()
+    ensures { TableTurnsGoOn }
+{}
+
+/// A shard that took the messages of the first turns of its owner in their order is the shard after these turns.
+pub fn turns_make_the_table()
+    ensures { TurnsMakeTable }
+{}
+
+/// After changes of its owner a shard sends each key of the owner's blocks where the canonical record of the key's group
+/// sends it, and the version that it tells is the number of the group's changes.
+pub fn routes_follow_changes()
+    ensures homes { HomesStay }
+    ensures routes { RoutesFollowChanges }
 {}

@@ -1,0 +1,5 @@
+use Rattle.replica_shard.proofs.TurnFacts.{turns_make}
+use Rattle.replica_shard.proofs.laws.turns_make_the_table.Goals as goal
+
+pub returns : goal.returns
+returns c = turns_make

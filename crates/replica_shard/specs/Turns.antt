@@ -1,0 +1,50 @@
+-- What the messages of an owner's changes make of a shard.
+use Rattle.std.specs.Prelude.{ℕ, ◌≡◌, ◌+◌, ◌%◌, ◌<◌, ◌≤◌, ◌++◌, List, [], ◌∷◌, All, Some, length, fold, take}
+use Rattle.std.specs.List.{slice_get}
+use Rattle.flow_types.specs.declared.key.FlowKey.{FlowKey}
+use Rattle.flow_types.specs.declared.record.Flow.{Flow}
+use Rattle.flow_types.specs.Size.{Size}
+use Rattle.hash_family.specs.Hash.{place}
+use Rattle.group_search.specs.Home.{home}
+use Rattle.group_search.specs.Owned.{IsOwned}
+use Rattle.group_history.specs.declared.change.Change.{Change}
+use Rattle.group_history.specs.Journal.{change_count}
+use Rattle.delta_codec.specs.declared.message.TableMessage.{TableMessage}
+use Rattle.replica_shard.specs.Message.{IsTableMessage, IsTableMessageOf}
+use Rattle.replica_shard.specs.Routed.{decoded}
+use Rattle.replica_shard.specs.Shard.{content_after, home_in_state, route_in_state, shard_after, with_content}
+
+-- the change is of a group of one of the owner's blocks
+pub record IsOfOwner (size : Size) (owner : ℕ) (change : Change) : Type 0 where
+  pub within : change.block < size.blocks
+  pub owned : change.block % size.nodes ≡ owner
+  pub in_block : change.group < 64
+
+-- a shard before a change becomes the shard after it by the change's message
+abbrev pub TableTurnsGoOn : Type 0
+TableTurnsGoOn = (size : Size) (owner : ℕ) (flows : List Flow) (before : List Change) (change : Change) (message : TableMessage)
+    → IsTableMessage size owner flows before change message → IsOfOwner size owner change
+    → with_content (shard_after size owner flows before) message ≡ shard_after size owner flows (before ++ change ∷ [])
+
+-- these are the messages of an owner's first turns, in their order
+abbrev pub AreTableMessagesOf : Size → (owner : ℕ) → List Flow → List Change → List TableMessage → Type 0
+AreTableMessagesOf size owner flows changes messages =
+    (i : ℕ) (message : TableMessage) → slice_get messages i ≡ Some message → IsTableMessageOf size owner flows changes (i + 1) message
+
+-- the opened shard that took the messages of an owner's first turns is the shard after these turns
+abbrev pub TurnsMakeTable : Type 0
+TurnsMakeTable = (size : Size) (owner : ℕ) (flows : List Flow) (changes : List Change) (messages : List TableMessage)
+    → All (IsOfOwner size owner) changes → AreTableMessagesOf size owner flows changes messages
+    → fold with_content (shard_after size owner flows []) messages ≡ shard_after size owner flows (take (length messages) changes)
+
+-- after changes of its owner a shard has the keys of the owner's blocks at the homes that the flows give them
+abbrev pub HomesStay : Type 0
+HomesStay = (size : Size) (owner : ℕ) (flows : List Flow) (changes : List Change) (key : FlowKey) → 1 ≤ size.blocks → IsOwned size owner key
+    → home_in_state (shard_after size owner flows changes) (place size.blocks key) ≡ home size.blocks flows key
+
+-- and sends them where the canonical record of the map of their group sends them; the version is the number of the group's changes
+abbrev pub RoutesFollowChanges : Type 0
+RoutesFollowChanges = (size : Size) (owner : ℕ) (flows : List Flow) (changes : List Change) (key : FlowKey) → 1 ≤ size.blocks → IsOwned size owner key
+    → let at = home size.blocks flows key in
+    route_in_state (shard_after size owner flows changes) (place size.blocks key) key
+    ≡ record { version = change_count at changes; node = decoded size key (content_after size flows changes at) }
