@@ -1,0 +1,115 @@
+use Rattle.std.proofs.Common.{◌≡◌, ◌∙◌, ◌<◌, ℕ, List, [], ◌∷◌, ◌++◌, IsOk, Ok, Err, refl, sym, ap, subst, arith, rules}
+use Rattle.std.specs.Prelude.{IfSome}
+use Rattle.std.proofs.lemmas.Bool.{cond-true}
+use Rattle.group_search.specs.Owned.{IsOwned}
+use Rattle.rib_owner.specs.Acceptance.{updated_key}
+use Rattle.rib_owner.specs.Turn.{AnswersUpdate, node_entered}
+use Rattle.rib_owner.proofs.Accepting.{err_is}
+use Rattle.delta_codec.specs.Values.{IsKeyValue}
+use Rattle.turn_sender.specs.declared.sent.SentTurn.{SentTurn}
+use Rattle.turn_sender.specs.Sender.{AnswersSender, IsSenderOf, SenderState, changes_in}
+use Rattle.turn_sender.specs.Sent.{AreAppended}
+use Rattle.turn_sender.proofs.Accepting.{accepted_content, accepted_head, accepted_stands, answers, refuses, rib_here, stands_here, stands_there}
+use Rattle.turn_sender.proofs.sender.Sender.accept.Goals as goal
+
+pub returns-in_err-turn-clause-answer : goal.returns-in_err-turn-clause-answer
+returns-in_err-turn-clause-answer c size number flows is =
+    let state : SenderState = record { rib = c.self.inside.owner; octets = c.self.inside.octets.items; sent = c.self.inside.turns.items } in
+    let is_state : IsSenderOf size number flows state = subst (IsSenderOf size number flows) (sym c.self.view_is) is in
+    rw (err_is c.from_residual-in_err-turn.result c.in_err-turn.field-0.0 c.from_residual-in_err-turn.ensures.1)
+    (subst (λ (s : SenderState). AnswersSender size flows (changes_in s) c.args.update c.accept.new.self.journal.changes (Err c.in_err-turn.field-0.0)) c.self.view_is
+    (refuses size number flows state is_state c.args.update c.in_err-turn.field-0.0 (c.in_err-turn.ensures.answer flows (rib_here size number flows state is_state))
+    c.accept.new.self.journal.changes))
+
+pub put_turn-sent-requires-clause-head : goal.put_turn-sent-requires-clause-head
+put_turn-sent-requires-clause-head c =
+    let state : SenderState = record { rib = c.self.inside.owner; octets = c.self.inside.octets.items; sent = c.self.inside.turns.items } in
+    let owns : IsOwned c.self.inside.owner.size c.self.inside.owner.number (updated_key c.args.update) =
+    subst (λ (s : SenderState). IsOwned s.rib.size s.rib.number (updated_key c.args.update)) (sym c.self.view_is) c.requires.owns in
+    let node : IfSome (node_entered c.args.update) (λ (n : ℕ). n < c.self.inside.owner.size.nodes) =
+    subst (λ (s : SenderState). IfSome (node_entered c.args.update) (λ (n : ℕ). n < s.rib.size.nodes)) (sym c.self.view_is) c.requires.node in
+    let key : IsKeyValue c.in_ok-turn.turn.change.key = search rules in
+    let answer : AnswersUpdate c.self.inside.owner.size c.self.invariant.flows c.self.inside.owner.journal.changes c.args.update (Ok c.in_ok-turn.turn) =
+    c.in_ok-turn.ensures.answer c.self.invariant.flows (rib_here c.self.inside.shape c.self.inside.number c.self.invariant.flows state c.self.invariant.stands) in
+    accepted_head c.self.inside.shape c.self.inside.number c.self.invariant.flows state c.self.invariant.stands c.args.update c.in_ok-turn.turn answer owns node key
+
+pub put_turn-sent-requires-clause-content : goal.put_turn-sent-requires-clause-content
+put_turn-sent-requires-clause-content c =
+    let state : SenderState = record { rib = c.self.inside.owner; octets = c.self.inside.octets.items; sent = c.self.inside.turns.items } in
+    let owns : IsOwned c.self.inside.owner.size c.self.inside.owner.number (updated_key c.args.update) =
+    subst (λ (s : SenderState). IsOwned s.rib.size s.rib.number (updated_key c.args.update)) (sym c.self.view_is) c.requires.owns in
+    let node : IfSome (node_entered c.args.update) (λ (n : ℕ). n < c.self.inside.owner.size.nodes) =
+    subst (λ (s : SenderState). IfSome (node_entered c.args.update) (λ (n : ℕ). n < s.rib.size.nodes)) (sym c.self.view_is) c.requires.node in
+    let key : IsKeyValue c.in_ok-turn.turn.change.key = search rules in
+    let answer : AnswersUpdate c.self.inside.owner.size c.self.invariant.flows c.self.inside.owner.journal.changes c.args.update (Ok c.in_ok-turn.turn) =
+    c.in_ok-turn.ensures.answer c.self.invariant.flows (rib_here c.self.inside.shape c.self.inside.number c.self.invariant.flows state c.self.invariant.stands) in
+    (accepted_content c.self.inside.shape c.self.inside.number c.self.invariant.flows state c.self.invariant.stands c.args.update c.in_ok-turn.turn answer owns node key).fits
+
+pub put_turn-sent-requires-clause-record : goal.put_turn-sent-requires-clause-record
+put_turn-sent-requires-clause-record c =
+    let state : SenderState = record { rib = c.self.inside.owner; octets = c.self.inside.octets.items; sent = c.self.inside.turns.items } in
+    let owns : IsOwned c.self.inside.owner.size c.self.inside.owner.number (updated_key c.args.update) =
+    subst (λ (s : SenderState). IsOwned s.rib.size s.rib.number (updated_key c.args.update)) (sym c.self.view_is) c.requires.owns in
+    let node : IfSome (node_entered c.args.update) (λ (n : ℕ). n < c.self.inside.owner.size.nodes) =
+    subst (λ (s : SenderState). IfSome (node_entered c.args.update) (λ (n : ℕ). n < s.rib.size.nodes)) (sym c.self.view_is) c.requires.node in
+    let key : IsKeyValue c.in_ok-turn.turn.change.key = search rules in
+    let answer : AnswersUpdate c.self.inside.owner.size c.self.invariant.flows c.self.inside.owner.journal.changes c.args.update (Ok c.in_ok-turn.turn) =
+    c.in_ok-turn.ensures.answer c.self.invariant.flows (rib_here c.self.inside.shape c.self.inside.number c.self.invariant.flows state c.self.invariant.stands) in
+    (accepted_content c.self.inside.shape c.self.inside.number c.self.invariant.flows state c.self.invariant.stands c.args.update c.in_ok-turn.turn answer owns node key).sized
+
+pub invariant_of-self-2 : goal.invariant_of-self-2
+invariant_of-self-2 c =
+    let state : SenderState = record { rib = c.self.inside.owner; octets = c.self.inside.octets.items; sent = c.self.inside.turns.items } in
+    let owns : IsOwned c.self.inside.owner.size c.self.inside.owner.number (updated_key c.args.update) =
+    subst (λ (s : SenderState). IsOwned s.rib.size s.rib.number (updated_key c.args.update)) (sym c.self.view_is) c.requires.owns in
+    let node : IfSome (node_entered c.args.update) (λ (n : ℕ). n < c.self.inside.owner.size.nodes) =
+    subst (λ (s : SenderState). IfSome (node_entered c.args.update) (λ (n : ℕ). n < s.rib.size.nodes)) (sym c.self.view_is) c.requires.node in
+    let key : IsKeyValue c.in_ok-turn.turn.change.key = search rules in
+    let answer : AnswersUpdate c.self.inside.owner.size c.self.invariant.flows c.self.inside.owner.journal.changes c.args.update (Ok c.in_ok-turn.turn) =
+    c.in_ok-turn.ensures.answer c.self.invariant.flows (rib_here c.self.inside.shape c.self.inside.number c.self.invariant.flows state c.self.invariant.stands) in
+    let new : SenderState = record { rib = c.accept.new.self; octets = c.put_turn-sent.new.octets.items; sent = c.push.new.self.items } in
+    let pushed : IsOk c.push.result = c.push.ensures.succeeds (omega (arith, c.in_ok-reserve-2.ensures.ok)) in
+    let sent_are : c.push.new.self.items ≡ c.self.inside.turns.items ++ c.put_turn-sent.result ∷ [] =
+    c.push.ensures.items ∙ cond-true _ _ _ pushed ∙ ap (λ (ts : List SentTurn). ts ++ c.put_turn-sent.result ∷ []) c.reserve-2.ensures.items in
+    let more : AreAppended c.self.inside.octets.items c.put_turn-sent.new.octets.items =
+    subst (λ (o : List ℕ). AreAppended o c.put_turn-sent.new.octets.items) c.reserve.ensures.items c.put_turn-sent.ensures.appended in
+    record {
+      flows = c.self.invariant.flows;
+      stands = accepted_stands c.self.inside.shape c.self.inside.number c.self.invariant.flows state c.self.invariant.stands c.args.update c.in_ok-turn.turn answer owns node key
+          c.put_turn-sent.new.octets.items c.put_turn-sent.result c.put_turn-sent.ensures.table c.put_turn-sent.ensures.fib new refl more sent_are
+          (c.in_ok-turn.ensures.stands c.self.invariant.flows (rib_here c.self.inside.shape c.self.inside.number c.self.invariant.flows state c.self.invariant.stands)) c.in_ok-turn.ensures.size c.in_ok-turn.ensures.number
+          c.in_ok-turn.ensures.journal;
+    }
+
+pub returns-clause-answer : goal.returns-clause-answer
+returns-clause-answer c size number flows is =
+    let state : SenderState = record { rib = c.self.inside.owner; octets = c.self.inside.octets.items; sent = c.self.inside.turns.items } in
+    let is_state : IsSenderOf size number flows state = subst (IsSenderOf size number flows) (sym c.self.view_is) is in
+    subst (λ (s : SenderState). AnswersSender size flows (changes_in s) c.args.update c.accept.new.self.journal.changes (Ok c.in_ok-turn.turn.number)) c.self.view_is
+    (answers size number flows state is_state c.args.update c.in_ok-turn.turn (c.in_ok-turn.ensures.answer flows (rib_here size number flows state is_state))
+    c.accept.new.self.journal.changes c.in_ok-turn.ensures.journal)
+
+pub returns-clause-stands : goal.returns-clause-stands
+returns-clause-stands c size number flows is =
+    let state : SenderState = record { rib = c.self.inside.owner; octets = c.self.inside.octets.items; sent = c.self.inside.turns.items } in
+    let owns : IsOwned c.self.inside.owner.size c.self.inside.owner.number (updated_key c.args.update) =
+    subst (λ (s : SenderState). IsOwned s.rib.size s.rib.number (updated_key c.args.update)) (sym c.self.view_is) c.requires.owns in
+    let node : IfSome (node_entered c.args.update) (λ (n : ℕ). n < c.self.inside.owner.size.nodes) =
+    subst (λ (s : SenderState). IfSome (node_entered c.args.update) (λ (n : ℕ). n < s.rib.size.nodes)) (sym c.self.view_is) c.requires.node in
+    let key : IsKeyValue c.in_ok-turn.turn.change.key = search rules in
+    let is_state : IsSenderOf size number flows state = subst (IsSenderOf size number flows) (sym c.self.view_is) is in
+    let is_here : IsSenderOf c.self.inside.shape c.self.inside.number flows state =
+    stands_here c.self.inside.shape c.self.inside.number c.self.invariant.flows state c.self.invariant.stands size number flows is_state in
+    let answer : AnswersUpdate c.self.inside.owner.size flows c.self.inside.owner.journal.changes c.args.update (Ok c.in_ok-turn.turn) =
+    c.in_ok-turn.ensures.answer flows (rib_here c.self.inside.shape c.self.inside.number flows state is_here) in
+    let new : SenderState = record { rib = c.accept.new.self; octets = c.put_turn-sent.new.octets.items; sent = c.push.new.self.items } in
+    let pushed : IsOk c.push.result = c.push.ensures.succeeds (omega (arith, c.in_ok-reserve-2.ensures.ok)) in
+    let sent_are : c.push.new.self.items ≡ c.self.inside.turns.items ++ c.put_turn-sent.result ∷ [] =
+    c.push.ensures.items ∙ cond-true _ _ _ pushed ∙ ap (λ (ts : List SentTurn). ts ++ c.put_turn-sent.result ∷ []) c.reserve-2.ensures.items in
+    let more : AreAppended c.self.inside.octets.items c.put_turn-sent.new.octets.items =
+    subst (λ (o : List ℕ). AreAppended o c.put_turn-sent.new.octets.items) c.reserve.ensures.items c.put_turn-sent.ensures.appended in
+    stands_there c.self.inside.shape c.self.inside.number c.self.invariant.flows state c.self.invariant.stands size number flows is_state new
+    (accepted_stands c.self.inside.shape c.self.inside.number flows state is_here c.args.update c.in_ok-turn.turn answer owns node key
+    c.put_turn-sent.new.octets.items c.put_turn-sent.result c.put_turn-sent.ensures.table c.put_turn-sent.ensures.fib new refl more sent_are
+    (c.in_ok-turn.ensures.stands flows (rib_here c.self.inside.shape c.self.inside.number flows state is_here)) c.in_ok-turn.ensures.size c.in_ok-turn.ensures.number
+    c.in_ok-turn.ensures.journal)

@@ -1,0 +1,4 @@
+pub mod Room
+pub mod Sent
+pub mod Turn
+pub mod Sender
