@@ -1,3 +1,4 @@
 pub mod Scripts
 pub mod FirstBadFacts
+pub mod Forms
 mod Vectors

@@ -13,7 +13,7 @@ use Rattle.replay_model.specs.Allowed.{phase_end}
 use Rattle.replay_model.specs.State.{Journals, ClusterOpening, journal_of}
 use Rattle.replay_model.specs.Updates.{after_update, journals_by, update_owner, verdict}
 use Rattle.replay_model.proofs.Cuts.{Grows, grows-by, grows-not, grows-on}
-use Rattle.replay_model.proofs.Maps.{AreSound, AreSoundAlong, IsHandled, along-more, sound-more}
+use Rattle.replay_model.proofs.Maps.{AreSound, AreSoundAlong, FitsMaps, along-more, sound-more}
 
 -- what holds of the journals of an update's owner, before it and with it, and of journals that stay, holds of all
 pushed : (Holds : List Change → Type 0) (journals : Journals) (at owner : ℕ) (change : Change) → Holds (journal_of journals at)
@@ -62,18 +62,18 @@ module _ (opened : ClusterOpening) where
   abbrev pub AreSoundJournals : Journals → Type 0
   AreSoundJournals journals = (owner : ℕ) → AreSoundAlong opened.size opened.flows (journal_of journals owner)
 
-  sound-case : (journals : Journals) (update : Update) (at : ℕ) (why : Option UpdateRefused) → verdict opened journals update ≡ why → IsHandled opened.size.nodes update
+  sound-case : (journals : Journals) (update : Update) (at : ℕ) (why : Option UpdateRefused) → verdict opened journals update ≡ why → FitsMaps opened.size.nodes update
       → AreSoundJournals journals
       → AreSoundAlong opened.size opened.flows (journal_of (journals_by journals (update_owner opened update) (change_of opened.size opened.flows update) why) at)
-  sound-case journals update at None accepted handled sounds =
+  sound-case journals update at None accepted fits sounds =
       let owner = update_owner opened update in
       let journal = journal_of journals owner in
       pushed (AreSoundAlong opened.size opened.flows) journals at owner (change_of opened.size opened.flows update) (sounds at)
       (λ same. along-more opened.size opened.flows journal (change_of opened.size opened.flows update) (sounds owner)
-      (sound-more opened.size opened.flows update handled journal
+      (sound-more opened.size opened.flows update fits journal
       (subst (AreSound opened.size opened.flows) (take_all (length journal) journal (omega arith)) (sounds owner (length journal))) accepted))
-  sound-case journals update at (Some refused) why handled sounds = sounds at
+  sound-case journals update at (Some refused) why fits sounds = sounds at
 
-  pub update-sound : (journals : Journals) (update : Update) → IsHandled opened.size.nodes update → AreSoundJournals journals → AreSoundJournals (after_update opened journals update)
+  pub update-sound : (journals : Journals) (update : Update) → FitsMaps opened.size.nodes update → AreSoundJournals journals → AreSoundJournals (after_update opened journals update)
   unfolding after_update
-  update-sound journals update handled sounds owner = sound-case journals update owner (verdict opened journals update) refl handled sounds
+  update-sound journals update fits sounds owner = sound-case journals update owner (verdict opened journals update) refl fits sounds

@@ -1,12 +1,12 @@
 -- The reply to a packet is a path of the model.
-use Rattle.std.proofs.Common.{◌≡◌, ◌∙◌, ◌+◌, ◌%◌, ◌<◌, ◌≤◌, ℕ, Bool, true, false, cond, List, length, Option, Some, None, refl, sym, ap, arith}
+use Rattle.std.proofs.Common.{◌≡◌, ◌∙◌, ◌+◌, ◌%◌, ◌<◌, ◌≤◌, ℕ, Bool, true, false, cond, List, length, Option, Some, None, refl, sym, ap, subst, arith}
 use Rattle.std.specs.Prelude.{◌==◌, ◌&&◌, IfSome}
 use Rattle.std.proofs.lemmas.Bool.{and_parts, eqb-true}
 use Rattle.std.proofs.lemmas.List.Elements.{All-contains}
 use Rattle.flow_types.specs.declared.key.FlowKey.{FlowKey}
 use Rattle.flow_types.specs.declared.record.Flow.{Flow}
 use Rattle.flow_types.specs.declared.record.Record.{Record}
-use Rattle.flow_types.specs.Map.{Knows}
+use Rattle.flow_types.specs.Map.{Knows, flow_at}
 use Rattle.flow_types.specs.Size.{Size, IsShape}
 use Rattle.hash_family.specs.Hash.{place}
 use Rattle.block_layout.specs.Candidate.{candidate}
@@ -17,13 +17,14 @@ use Rattle.group_search.proofs.EachFlow.{gives_each_handler}
 use Rattle.group_history.specs.declared.change.Change.{Change}
 use Rattle.group_history.specs.Journal.{change_count}
 use Rattle.group_history.specs.Routes.{Answer, Route}
+use Rattle.delta_codec.specs.Values.{IsKeyValue}
 use Rattle.packet_reader.specs.declared.event.Part.{Part}
 use Rattle.packet_reader.specs.declared.event.Part.TheVariants.{Table, Fib}
 use Rattle.rib_owner.specs.Rib.{map_now}
 use Rattle.replica_shard.specs.Routed.{decoded}
 use Rattle.replica_shard.proofs.Below.{decoded_below}
-use Rattle.cluster_replay.specs.Replies.{fib_record}
-use Rattle.cluster_replay.proofs.PathFacts.{found, missing}
+use Rattle.partial_fib.specs.Fib.{handled_record}
+use Rattle.partial_fib.proofs.MapAnswers.{map_answers}
 use Rattle.replay_model.specs.Allowed.{Cuts, IsAnswered, IsAtVersion, IsOfPhase, IsSeen, Moment, PathThen, after_answered, after_seen, changes_of_key, with_cut}
 use Rattle.replay_model.specs.Carrying.{turns_taken}
 use Rattle.replay_model.specs.Packets.{answer_of, first_changes, packet_reply, fib_record_after, reply_sent, routed_after, version_after}
@@ -64,9 +65,8 @@ module _ (size : Size) (shape : IsShape size.nodes size.blocks) (flows : List Fl
   sends : (to : Option ℕ) → decoded size key (content_of size.nodes flows) ≡ to → Route size.nodes flows key to
   sends to is = record { known = to-handler to is; unknown = λ none. to-below to is }
 
-answers : (flows : List Flow) (node : ℕ) (key : FlowKey) (said : Option Record) → fib_record node flows key ≡ said → Answer flows node key said
-answers flows node key (Some info) is = found node key flows info is
-answers flows node key None is = missing node key flows is
+  answers : IsKeyValue key → (node : ℕ) (said : Option Record) → handled_record node (flow_at key flows) ≡ said → Answer flows node key said
+  answers value node said is = subst (Answer flows node key) is (map_answers flows sound.distinct sound.values node key value)
 
 -- ---- cuts that move
 
@@ -86,7 +86,7 @@ with-cut-within cuts most lane node owner cut all here l n o = by ((l == lane) &
 -- ---- the packet
 
 module _ (opened : ClusterOpening) (shape : IsShape opened.size.nodes opened.size.blocks) (m : Moment) (stands : Stands opened m) (end : Journals)
-    (ends : (owner : ℕ) → Grows (journal_of m.now owner) (journal_of end owner)) (key : FlowKey) where
+    (ends : (owner : ℕ) → Grows (journal_of m.now owner) (journal_of end owner)) (key : FlowKey) (value : IsKeyValue key) where
   abbrev at_home : Home
   at_home = home_of_key opened key
 
@@ -185,7 +185,7 @@ module _ (opened : ClusterOpening) (shape : IsShape opened.size.nodes opened.siz
       is-answered said is = record {
         flows = flows_there Fib node;
         at = at-there Fib node;
-        answers = answers (flows_there Fib node) node key said is;
+        answers = answers opened.size shape (flows_there Fib node) (sound-there Fib node) key value node said is;
         phase = phase-there Fib node node-low;
         cut_is = (cut-there Fib lane node).next;
       }

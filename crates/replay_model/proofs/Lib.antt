@@ -8,3 +8,4 @@ pub mod Replays
 pub mod OneVersion
 pub mod Records
 pub mod NeverBack
+pub mod Parts

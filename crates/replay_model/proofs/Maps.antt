@@ -21,6 +21,7 @@ use Rattle.group_history.specs.Change.{concerns, flow_to, step}
 use Rattle.group_history.specs.History.{changed, now}
 use Rattle.group_history.specs.Journal.{concerning}
 use Rattle.group_history.proofs.Versions.{distinct-step, now_other, now_own}
+use Rattle.delta_codec.specs.Values.{IsKeyValue}
 use Rattle.rib_owner.specs.declared.update.Update.{Update}
 use Rattle.rib_owner.specs.declared.update.Update.TheVariants.{Set, Del}
 use Rattle.rib_owner.specs.Acceptance.{Grounds, IsAccepted, change_at, change_of, free_beside, grounds, grounds_in, maps_now, refusal, updated_key}
@@ -28,11 +29,14 @@ use Rattle.rib_owner.specs.Rib.{map_now}
 use Rattle.rib_owner.proofs.OneCase.{one_case}
 use Rattle.rib_owner.proofs.Sums.{part_of_sum}
 use Rattle.rib_owner.proofs.Rows.{length-entries}
+use Rattle.partial_fib.specs.Answering.{HaveKeyValues}
+use Rattle.partial_fib.proofs.MapAnswers.{values-step}
 
--- a map of flows at so many nodes, with its canonical record
+-- a map from keys in range to so many nodes, with its canonical record
 pub record IsSound (nodes : ℕ) (flows : List Flow) : Type 0 where
   pub distinct : AreDistinct flows
   pub handled : AreHandled nodes flows
+  pub values : HaveKeyValues flows
   pub content : GroupRecord
   pub content_is : content_of nodes flows ≡ Some content
 
@@ -55,10 +59,10 @@ content_there nodes flows few = by (content_of nodes flows) refl
         let many = without_record (entries flows) (value_bits nodes) (no_content nodes flows is) in
         absurd (omega (arith, few, many.0, many.1))
 
-sound : (nodes : ℕ) (flows : List Flow) → AreDistinct flows → AreHandled nodes flows → rows_needed (value_bits nodes) (entries flows) ≤ 64 → IsSound nodes flows
-sound nodes flows distinct handled few =
+sound : (nodes : ℕ) (flows : List Flow) → AreDistinct flows → AreHandled nodes flows → HaveKeyValues flows → rows_needed (value_bits nodes) (entries flows) ≤ 64 → IsSound nodes flows
+sound nodes flows distinct handled values few =
     let has = content_there nodes flows few in
-    record { distinct = distinct; handled = handled; content = has.there; content_is = has.is }
+    record { distinct = distinct; handled = handled; values = values; content = has.there; content_is = has.is }
 
 -- ---- the maps with which a cluster is opened
 
@@ -70,13 +74,14 @@ module _ (size : Size) (flows : List Flow) where
       let few = (all at.block block).few_rows in
       omega (arith, few, part_of_sum (rows_needed_in size flows at.block) at.group 64 group)
 
-  opening-sound : AreDistinct flows → AreHandled size.nodes flows → past_limit size flows ≡ None → (at : Home) → at.block < size.blocks → at.group < 64
+  opening-sound : AreDistinct flows → AreHandled size.nodes flows → HaveKeyValues flows → past_limit size flows ≡ None → (at : Home) → at.block < size.blocks → at.group < 64
       → IsSound size.nodes (opening size.blocks flows at)
   unfolding opening
-  opening-sound distinct handled within at block group =
+  opening-sound distinct handled values within at block group =
       sound size.nodes (opening size.blocks flows at)
       (AllPairs-filter (λ (a : Flow) (b : Flow). number a.key ≢ number b.key) (λ (flow : Flow). is_home (home size.blocks flows flow.key) at) flows distinct)
       (All-filter (λ (flow : Flow). is_home (home size.blocks flows flow.key) at) (λ (flow : Flow). flow.node < size.nodes) flows handled)
+      (All-filter (λ (flow : Flow). is_home (home size.blocks flows flow.key) at) (λ (flow : Flow). IsKeyValue flow.key) flows values)
       (few_rows within at block group)
 
 -- ---- one change
@@ -85,6 +90,11 @@ module _ (size : Size) (flows : List Flow) where
 abbrev pub IsHandled : (nodes : ℕ) → Update → Type 0
 IsHandled nodes (Set flow) = flow.node < nodes
 IsHandled nodes (Del key) = Unit {0}
+
+-- and its key is in range
+pub record FitsMaps (nodes : ℕ) (update : Update) : Type 0 where
+  pub handled : IsHandled nodes update
+  pub value : IsKeyValue (updated_key update)
 
 handled-step : (nodes : ℕ) (flows : List Flow) (at : Home) (update : Update) → AreHandled nodes flows → IsHandled nodes update
     → AreHandled nodes (step flows (change_at at update))
@@ -134,11 +144,11 @@ module _ (size : Size) (flows : List Flow) where
   abbrev pub AreSound : List Change → Type 0
   AreSound changes = (at : Home) → at.block < size.blocks → at.group < 64 → IsSound size.nodes (map_now size flows changes at)
 
-  pub sound-none : AreDistinct flows → AreHandled size.nodes flows → past_limit size flows ≡ None → AreSound []
+  pub sound-none : AreDistinct flows → AreHandled size.nodes flows → HaveKeyValues flows → past_limit size flows ≡ None → AreSound []
   unfolding map_now now changed concerning
-  sound-none distinct handled within at block group = opening-sound size flows distinct handled within at block group
+  sound-none distinct handled values within at block group = opening-sound size flows distinct handled values within at block group
 
-  module _ (update : Update) (handled : IsHandled size.nodes update) (changes : List Change) (sounds : AreSound changes)
+  module _ (update : Update) (fits : FitsMaps size.nodes update) (changes : List Change) (sounds : AreSound changes)
       (accepted : refusal update (grounds size flows changes update) ≡ None) where
     change : Change
     change = change_of size flows update
@@ -157,7 +167,8 @@ module _ (size : Size) (flows : List Flow) where
         let before = sounds at block group in
         let new = step (map_now size flows changes at) change in
         sound size.nodes new (distinct-step (map_now size flows changes at) change before.distinct)
-        (handled-step size.nodes (map_now size flows changes at) (home size.blocks flows (updated_key update)) update before.handled handled)
+        (handled-step size.nodes (map_now size flows changes at) (home size.blocks flows (updated_key update)) update before.handled fits.handled)
+        (values-step (map_now size flows changes at) change fits.value before.values)
         (subst (λ (h : Home). rows_needed (value_bits size.nodes) (entries (step (map_now size flows changes h) change)) ≤ 64) (home_is at own)
         (accepted-rows size flows update changes accepted))
 

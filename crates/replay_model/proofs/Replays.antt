@@ -4,22 +4,20 @@ use Rattle.std.proofs.lemmas.Bool.{cases_lt}
 use Rattle.std.proofs.lemmas.List.{get_or-replicate, get_or_past, length-replicate}
 use Rattle.std.proofs.lemmas.List.Elements.{All-head, All-tail}
 use Rattle.group_history.specs.declared.change.Change.{Change}
-use Rattle.packet_reader.specs.Form.{IsFormed}
 use Rattle.packet_reader.specs.declared.event.Event.{Event}
 use Rattle.packet_reader.specs.declared.event.Event.TheVariants.{Set, Del, Packet, Carry, Sync}
 use Rattle.packet_reader.specs.declared.event.Part.{Part}
 use Rattle.packet_reader.specs.declared.event.Part.TheVariants.{Table, Fib}
-use Rattle.packet_reader.specs.declared.mode.Mode.TheVariants.{Replay}
 use Rattle.rib_owner.specs.declared.update.Update.{Update}
 use Rattle.rib_owner.specs.declared.update.Update.TheVariants as update
 use Rattle.replay_model.specs.Allowed.{AllowedFrom, Moment, beginning, phase_end}
 use Rattle.replay_model.specs.Carrying.{after_carry, after_sync, turns_taken}
-use Rattle.replay_model.specs.Laws.{AreFormed, CanBeOpened, NodesTakePrefixes, ReplaysAreAllowed, TakesPrefixes, state_after_all}
+use Rattle.replay_model.specs.Laws.{AreFormed, CanBeOpened, IsRowOfReplay, NodesTakePrefixes, ReplaysAreAllowed, TakesPrefixes, state_after_all}
 use Rattle.replay_model.specs.Replaying.{fresh, fresh_node, replayed_with_updates, replies_from, reply_in, state_after}
 use Rattle.replay_model.specs.State.{ClusterOpening, ClusterState, Taken, journal_of, nothing_taken}
 use Rattle.replay_model.specs.Updates.{after_update}
 use Rattle.replay_model.proofs.Cuts.{grown-length, grows-not, grows-on}
-use Rattle.replay_model.proofs.Maps.{AreSoundAlong, IsHandled, along-none, sound-none}
+use Rattle.replay_model.proofs.Maps.{AreSoundAlong, FitsMaps, along-none, sound-none}
 use Rattle.replay_model.proofs.Accepting.{phase-grows, update-grows, update-sound}
 use Rattle.replay_model.proofs.Taking.{Rises, WereSent, carry-rises, sync-all, sync-rises, turns_by, turns_in}
 use Rattle.replay_model.proofs.Answering.{Stands, cuts_of, packet-path}
@@ -74,7 +72,7 @@ module _ (opened : ClusterOpening) (can : CanBeOpened opened) where
     grown = λ owner. grows-not (journal_of (beginning opened).start owner);
     sounds = λ owner.
         subst (AreSoundAlong opened.size opened.flows) (sym (empty_journal opened.size.nodes owner))
-        (along-none opened.size opened.flows (sound-none opened.size opened.flows can.distinct can.handled can.within));
+        (along-none opened.size opened.flows (sound-none opened.size opened.flows can.distinct can.handled can.values can.within));
     sent = none_sent opened;
     late = λ part node owner low. rw (empty_journal opened.size.nodes owner) (omega arith);
     cuts = λ part lane node owner. rw (no_cut opened part lane node owner) (omega arith);
@@ -83,11 +81,11 @@ module _ (opened : ClusterOpening) (can : CanBeOpened opened) where
   -- ---- one event
 
   module _ (m : Moment) (stands : Stands opened m) where
-    stands_updated : (update : Update) → IsHandled opened.size.nodes update → Stands opened (record m { now = after_update opened m.now update })
-    stands_updated update handled = record {
+    stands_updated : (update : Update) → FitsMaps opened.size.nodes update → Stands opened (record m { now = after_update opened m.now update })
+    stands_updated update fits = record {
       one_each = stands.one_each;
       grown = λ owner. grows-on _ _ _ (stands.grown owner) (update-grows opened m.now update owner);
-      sounds = update-sound opened m.now update handled stands.sounds;
+      sounds = update-sound opened m.now update fits stands.sounds;
       sent = λ part node owner. omega (arith, stands.sent part node owner, grown-length _ _ (update-grows opened m.now update owner));
       late = stands.late;
       cuts = cuts_kept;
@@ -143,20 +141,21 @@ module _ (opened : ClusterOpening) (can : CanBeOpened opened) where
   unfolding replies_from reply_in state_after
   allowed-from lanes [] m stands formed = tt
   allowed-from lanes (Set flow ∷ script) m stands formed =
-      let this = All-head (IsFormed Replay opened.size) (Set flow) script formed in
-      (refl, allowed-from lanes script _ (stands_updated m stands (update.Set flow) this.in_range) (All-tail (IsFormed Replay opened.size) (Set flow) script formed))
+      let this = All-head (IsRowOfReplay opened.size) (Set flow) script formed in
+      (refl, allowed-from lanes script _ (stands_updated m stands (update.Set flow) (record { handled = this.formed.in_range; value = this.value })) (All-tail (IsRowOfReplay opened.size) (Set flow) script formed))
   allowed-from lanes (Del key ∷ script) m stands formed =
-      (refl, allowed-from lanes script _ (stands_updated m stands (update.Del key) tt) (All-tail (IsFormed Replay opened.size) (Del key) script formed))
+      let this = All-head (IsRowOfReplay opened.size) (Del key) script formed in
+      (refl, allowed-from lanes script _ (stands_updated m stands (update.Del key) (record { handled = tt; value = this.value })) (All-tail (IsRowOfReplay opened.size) (Del key) script formed))
   allowed-from lanes (Packet ingress key ∷ script) m stands formed =
-      let this = All-head (IsFormed Replay opened.size) (Packet ingress key) script formed in
-      packet-path opened can.shape m stands (phase_end opened m.now script) (phase-grows opened script m.now) key lanes ingress this.in_range
+      let this = All-head (IsRowOfReplay opened.size) (Packet ingress key) script formed in
+      packet-path opened can.shape m stands (phase_end opened m.now script) (phase-grows opened script m.now) key this.value lanes ingress this.formed.in_range
       (λ (next : Moment). AllowedFrom opened lanes next script (replies_from (state_at m) script))
       (λ packets tables fibs then.
-      allowed-from lanes script (record m { packets = packets; tables = tables; fibs = fibs }) then (All-tail (IsFormed Replay opened.size) (Packet ingress key) script formed))
+      allowed-from lanes script (record m { packets = packets; tables = tables; fibs = fibs }) then (All-tail (IsRowOfReplay opened.size) (Packet ingress key) script formed))
   allowed-from lanes (Carry node owner turn part ∷ script) m stands formed =
-      (refl, allowed-from lanes script _ (stands_carried m stands node owner turn part) (All-tail (IsFormed Replay opened.size) (Carry node owner turn part) script formed))
+      (refl, allowed-from lanes script _ (stands_carried m stands node owner turn part) (All-tail (IsRowOfReplay opened.size) (Carry node owner turn part) script formed))
   allowed-from lanes (Sync ∷ script) m stands formed =
-      (refl, allowed-from lanes script _ (stands_synced m stands) (All-tail (IsFormed Replay opened.size) Sync script formed))
+      (refl, allowed-from lanes script _ (stands_synced m stands) (All-tail (IsRowOfReplay opened.size) Sync script formed))
 
 pub replays_are_allowed : ReplaysAreAllowed
 unfolding replayed_with_updates fresh

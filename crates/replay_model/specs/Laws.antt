@@ -1,13 +1,16 @@
 -- What holds of every replay.
 use Rattle.std.specs.Prelude.{◌≡◌, ℕ, ◌≤◌, List, [], ◌∷◌, length, replicate, All, None}
 use Rattle.flow_types.specs.Map.{AreDistinct}
-use Rattle.flow_types.specs.Size.{IsShape}
+use Rattle.flow_types.specs.Size.{Size, IsShape}
 use Rattle.group_search.specs.Build.{past_limit}
 use Rattle.group_search.specs.Records.{AreHandled}
+use Rattle.delta_codec.specs.Values.{IsKeyValue}
 use Rattle.packet_reader.specs.Form.{IsFormed}
 use Rattle.packet_reader.specs.declared.event.Event.{Event}
+use Rattle.packet_reader.specs.declared.event.Event.TheVariants.{Set, Del, Packet, Carry, Sync}
 use Rattle.packet_reader.specs.declared.event.Part.{Part}
 use Rattle.packet_reader.specs.declared.mode.Mode.TheVariants.{Replay}
+use Rattle.partial_fib.specs.Answering.{HaveKeyValues}
 use Rattle.replay_model.specs.Allowed.{Allowed}
 use Rattle.replay_model.specs.Carrying.{turns_taken}
 use Rattle.replay_model.specs.Lanes.{NeverFalls}
@@ -16,16 +19,30 @@ use Rattle.replay_model.specs.State.{Journals, ClusterOpening, ClusterState, jou
 use Rattle.replay_model.specs.Told.{EachPacket, GoesByRecord, TellsAtOneVersion}
 use Rattle.replay_model.specs.declared.reply.Reply.{Reply}
 
--- a cluster can be opened so: it has a shape, its flows are a map from keys to its nodes, and no block is past a limit
+-- a cluster can be opened so: it has a shape, its flows are a map from keys in range to its nodes, and no block is past a limit
 pub record CanBeOpened (opened : ClusterOpening) : Type 0 where
   pub shape : IsShape opened.size.nodes opened.size.blocks
   pub distinct : AreDistinct opened.flows
   pub handled : AreHandled opened.size.nodes opened.flows
+  pub values : HaveKeyValues opened.flows
   pub within : past_limit opened.size opened.flows ≡ None
 
--- each event has the form of a row of a replay
+-- the key that the event names is in range
+abbrev pub HasKeyValue : Event → Type 0
+HasKeyValue (Set flow) = IsKeyValue flow.key
+HasKeyValue (Del key) = IsKeyValue key
+HasKeyValue (Packet ingress key) = IsKeyValue key
+HasKeyValue (Carry node owner turn part) = Unit {0}
+HasKeyValue Sync = Unit {0}
+
+-- the event has the form of a row of a replay, in a cluster of this shape
+pub record IsRowOfReplay (shape : Size) (event : Event) : Type 0 where
+  pub formed : IsFormed Replay shape event
+  pub value : HasKeyValue event
+
+-- so has each of the events
 abbrev pub AreFormed : ClusterOpening → List Event → Type 0
-AreFormed opened script = All (IsFormed Replay opened.size) script
+AreFormed opened script = All (IsRowOfReplay opened.size) script
 
 -- the replies of a replay are allowed, in a run with one lane or with any other number
 abbrev pub ReplaysAreAllowed : Type 0

@@ -2,12 +2,13 @@
 use Rattle.std.specs.Prelude.{ℕ, List, take, Option, Some, None}
 use Rattle.flow_types.specs.declared.key.FlowKey.{FlowKey}
 use Rattle.flow_types.specs.declared.record.Record.{Record}
+use Rattle.flow_types.specs.Map.{flow_at}
 use Rattle.group_search.specs.Records.{content_of}
 use Rattle.group_history.specs.declared.change.Change.{Change}
 use Rattle.group_history.specs.Journal.{change_count}
 use Rattle.rib_owner.specs.Rib.{map_now}
 use Rattle.replica_shard.specs.Routed.{decoded}
-use Rattle.cluster_replay.specs.Replies.{fib_record}
+use Rattle.partial_fib.specs.Fib.{handled_record}
 use Rattle.replay_model.specs.declared.reply.Reply.{Reply}
 use Rattle.replay_model.specs.declared.reply.Reply.TheVariants.{Found, Unknown, Nowhere}
 use Rattle.replay_model.specs.State.{Journals, ClusterOpening, Taken, fib_turns, home_of_key, journal_of, owner_of_group, table_turns}
@@ -19,7 +20,7 @@ routed_after opened changes key =
 
 -- the record that a node has of the key, after these changes
 unfoldable pub fib_record_after : ClusterOpening → List Change → (node : ℕ) → FlowKey → Option Record
-fib_record_after opened changes node key = fib_record node (map_now opened.size opened.flows changes (home_of_key opened key)) key
+fib_record_after opened changes node key = handled_record node (flow_at key (map_now opened.size opened.flows changes (home_of_key opened key)))
 
 -- the first changes of the key's owner
 abbrev pub first_changes : ClusterOpening → Journals → FlowKey → (turns : ℕ) → List Change
