@@ -50,14 +50,14 @@ fewer-case true false m n served less = cc (served refl)
 fewer-case false true m n served less = omega arith
 fewer-case false false m n served less = less
 
-fewer_rows : (bits : ℕ) (key : FlowKey) (flows : List Flow) → length (without key flows) ≤ length flows
+pub fewer_rows : (bits : ℕ) (key : FlowKey) (flows : List Flow) → length (without key flows) ≤ length flows
     → rows_needed bits (entries (without key flows)) ≤ rows_needed bits (entries flows)
 unfolding rows_needed
 fewer_rows bits key flows less =
     fewer-case (is_separable bits (entries flows)) (is_separable bits (entries (without key flows))) (length (entries flows)) (length (entries (without key flows)))
     (separable_without bits key flows) (omega (arith, length-entries flows, length-entries (without key flows)))
 
-removed : (flows : List Flow) (change : Change) → change.to ≡ None → step flows change ≡ without change.key flows
+pub removed : (flows : List Flow) (change : Change) → change.to ≡ None → step flows change ≡ without change.key flows
 unfolding step
 removed flows change none = ap (λ (to : Option (ℕ × Record)). with_at change.key to flows) none
 

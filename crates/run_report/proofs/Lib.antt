@@ -1,0 +1,11 @@
+mod Words
+mod Counts
+mod LineByLine
+pub mod EventKinds
+mod Fields
+mod Addresses
+mod SameLine
+mod Fitting
+mod OneRun
+mod WorkedRows
+mod DeletionRows
