@@ -1,11 +1,17 @@
-mod Counts
-mod LineByLine
-mod Words
-mod Replied
-mod FibFacts
-mod Found
-mod Scripts
-mod Nodes
-pub mod PathFacts
+pub mod KeyRanges
 pub mod FirstBadFacts
 pub mod RunFacts
+pub mod Numbered
+pub mod NodeFacts
+pub mod Turns
+pub mod Carried
+pub mod Answered
+pub mod Held
+pub mod Owners
+pub mod HeldOwners
+pub mod Routing
+pub mod HeldRouting
+pub mod Syncing
+pub mod Replied
+pub mod Sized
+pub mod Opened

@@ -1,89 +1,48 @@
 -- The rows of an input one by one: when they are printed as a run, and which of them is the first bad one.
-use Rattle.std.specs.Prelude.{◌≡◌, ◌⊎◌, ◌↔◌, ℕ, ◌+◌, List, [], ◌∷◌, ◌++◌, length, map, drop, Some, None, Ok, Err}
-use Rattle.csv_rows.specs.Rows.{Row, rows}
+use Rattle.std.specs.Prelude.{◌≡◌, ◌⊎◌, ◌↔◌, ℕ, List, drop, Some, None, Ok, Err}
 use Rattle.flow_types.specs.declared.why.BadRow.{BadRow}
-use Rattle.flow_types.specs.declared.why.Why.{Why}
-use Rattle.flow_types.specs.declared.why.Why.TheVariants as why
+use Rattle.csv_rows.specs.Rows.{Row, rows}
 use Rattle.flow_reader.specs.FirstBad.{IsFirstBad, IsOpening}
 use Rattle.flow_reader.specs.declared.opening.Opening.{Opening}
 use Rattle.group_search.specs.Build.{PastLimit, past_limit}
 use Rattle.group_search.specs.Build.PastLimit.{TooManyFlows, TooManyRows}
-use Rattle.cluster_replay.specs.declared.event.Event.{Event}
+use Rattle.packet_reader.specs.declared.event.Event.{Event}
+use Rattle.packet_reader.specs.declared.mode.Mode.{Mode}
+use Rattle.packet_reader.specs.declared.mode.Mode.TheVariants.{Replay}
+use Rattle.packet_reader.specs.FirstBad.{IsFirstBadAfter, IsScript}
 use Rattle.cluster_replay.specs.declared.fault.InputFault.TheVariants.{Bad, BlockFull, RowsFull}
-use Rattle.cluster_replay.specs.Outcome.{opened, outcome}
-use Rattle.cluster_replay.specs.Replies.{replayed}
-use Rattle.cluster_replay.specs.Report.{report}
-use Rattle.cluster_replay.specs.Script.{script_row}
-
--- a row for each of these events, so none of them breaks a rule
-abbrev pub SayEvents : ℕ → List Row → List Event → Type 0
-SayEvents nodes before events = map (script_row nodes) before ≡ map (λ event. Ok (Some event)) events
-
--- a row for each of these events, and then `end`
-pub record IsScript (nodes : ℕ) (rest : List Row) (events : List Event) : Type 0 where
-  pub before : List Row
-  pub last : Row
-  pub split : rest ≡ before ++ last ∷ []
-  pub say_events : SayEvents nodes before events
-  pub says_end : script_row nodes last ≡ Ok None
-
--- a row after `begin` breaks a rule for this reason, and the rows before it break none: it is bad by itself, or it
--- stands after the `end`
-abbrev pub BreaksAfter : ℕ → List Row → Row → Why → Type 0
-BreaksAfter nodes before row reason =
-    ((events : List Event) × SayEvents nodes before events × (script_row nodes row ≡ Err reason))
-    ⊎ ((events : List Event) × IsScript nodes before events × (reason ≡ why.AfterEnd))
-
--- so the bad row stands at this place among the rows after `begin`, which stands in the row of this number
-pub record IsBadAfter (nodes begin_row : ℕ) (rest : List Row) (bad : BadRow) : Type 0 where
-  pub before : List Row
-  pub row : Row
-  pub after : List Row
-  pub split : rest ≡ before ++ row ∷ after
-  pub breaks : BreaksAfter nodes before row bad.why
-  pub number : bad.row ≡ begin_row + length before + 1
-
--- no row breaks a rule, and none is `end`
-pub record NeverEnds (nodes begin_row : ℕ) (rest : List Row) (bad : BadRow) : Type 0 where
-  pub events : List Event
-  pub say_events : SayEvents nodes rest events
-  pub reason : bad.why ≡ why.NoEnd
-  pub number : bad.row ≡ begin_row + length rest + 1
-
--- the first bad row after `begin`, where the `end` row that is missing counts as one
-abbrev pub IsFirstBadAfter : ℕ → ℕ → List Row → BadRow → Type 0
-IsFirstBadAfter nodes begin_row rest bad = IsBadAfter nodes begin_row rest bad ⊎ NeverEnds nodes begin_row rest bad
+use Rattle.cluster_replay.specs.Outcome.{outcome, replay_report}
 
 -- the first bad row of all rows: one up to `begin`, or one after it
-abbrev pub IsFirstBadRow : List Row → BadRow → Type 0
-IsFirstBadRow all bad =
+abbrev pub IsFirstBadRow : Mode → List Row → BadRow → Type 0
+IsFirstBadRow mode all bad =
     IsFirstBad all bad
-    ⊎ ((opening : Opening) × IsOpening all opening × IsFirstBadAfter opening.shape.nodes opening.begin_row (drop opening.begin_row all) bad)
+    ⊎ ((opening : Opening) × IsOpening all opening × IsFirstBadAfter mode opening.shape opening.begin_row (drop opening.begin_row all) bad)
 
 -- no row is bad, and the rows say this opening and this script
-pub record AreReadable (all : List Row) (opening : Opening) (script : List Event) : Type 0 where
+pub record AreReadable (mode : Mode) (all : List Row) (opening : Opening) (script : List Event) : Type 0 where
   pub opens : IsOpening all opening
-  pub goes_on : IsScript opening.shape.nodes (drop opening.begin_row all) script
+  pub goes_on : IsScript mode opening.shape (drop opening.begin_row all) script
 
--- no row is bad, no block is past a limit, and this is the report of the script and of its replies
+-- no row is bad, no block is past a limit, and this is the report of a replay of the script
 pub record IsReportOf (all : List Row) (text : List ℕ) : Type 0 where
   pub opening : Opening
   pub script : List Event
-  pub readable : AreReadable all opening script
+  pub readable : AreReadable Replay all opening script
   pub within : past_limit opening.shape opening.flows ≡ None
-  pub prints : text ≡ report script (replayed (opened opening) script)
+  pub prints : text ≡ replay_report opening script
 
 -- no row is bad, and the first block that is past a limit is past this one
-pub record IsPast (all : List Row) (past : PastLimit) : Type 0 where
+pub record IsPast (mode : Mode) (all : List Row) (past : PastLimit) : Type 0 where
   pub opening : Opening
   pub script : List Event
-  pub readable : AreReadable all opening script
+  pub readable : AreReadable mode all opening script
   pub first : past_limit opening.shape opening.flows ≡ Some past
 
 -- an input comes to a text exactly where that is its report, to a bad row exactly where that is its first, and to a block
 -- exactly where no row is bad and that is its first block past a limit
 pub record OutcomeLaw (bytes : List ℕ) : Type 0 where
   pub printed : (text : List ℕ) → (outcome bytes ≡ Ok text) ↔ IsReportOf (rows bytes) text
-  pub refused : (bad : BadRow) → (outcome bytes ≡ Err (Bad bad)) ↔ IsFirstBadRow (rows bytes) bad
-  pub block_full : (block : ℕ) → (outcome bytes ≡ Err (BlockFull block)) ↔ IsPast (rows bytes) (TooManyFlows block)
-  pub rows_full : (block : ℕ) → (outcome bytes ≡ Err (RowsFull block)) ↔ ((needed : ℕ) × IsPast (rows bytes) (TooManyRows block needed))
+  pub refused : (bad : BadRow) → (outcome bytes ≡ Err (Bad bad)) ↔ IsFirstBadRow Replay (rows bytes) bad
+  pub block_full : (block : ℕ) → (outcome bytes ≡ Err (BlockFull block)) ↔ IsPast Replay (rows bytes) (TooManyFlows block)
+  pub rows_full : (block : ℕ) → (outcome bytes ≡ Err (RowsFull block)) ↔ ((needed : ℕ) × IsPast Replay (rows bytes) (TooManyRows block needed))

@@ -1,11 +1,6 @@
-pub mod Report
-pub mod Replies
-pub mod State
-pub mod Tables
-pub mod Cluster
 pub mod Limits
-pub mod Script
 pub mod Outcome
-pub mod Path
 pub mod FirstBad
 pub mod Headline
+pub mod Laws
+pub mod Cluster

@@ -1,11 +1,12 @@
 ghost use Rattle.std.specs.Prelude.{◌≡◌, All, IfOk};
-ghost use Rattle.cluster_replay.specs.Replies.{replayed};
-ghost use Rattle.cluster_replay.specs.Script.{IsFormed};
+ghost use Rattle.packet_reader.specs.Form.{IsFormed};
+ghost use Rattle.packet_reader.specs.declared.mode.Mode.TheVariants.{Replay};
+ghost use Rattle.replay_model.specs.Replaying.{replies_from};
 
 use crate::cluster::Cluster;
-use crate::event::Event;
-use crate::reply::Reply;
 use out_of_memory::OutOfMemory;
+use packet_reader::Event;
+use replay_model::Reply;
 use std::alloc::Global;
 
 /// The replies of a cluster to a script, one for each event.
@@ -14,8 +15,8 @@ pub fn replies(
     cluster: &mut Cluster,
     script: &[Event],
 ) -> Result<Vec<Reply>, OutOfMemory>
-    requires { All (IsFormed cluster.old.size.nodes) script.now }
-    ensures { IfOk result (λ made. made.items ≡ replayed cluster.old script.now) }
+    requires { All (IsFormed Replay cluster.old.cluster.opened.size) script.now }
+    ensures { IfOk result (λ made. made.items ≡ replies_from cluster.old.cluster script.now) }
 {
     let mut replies = Vec::with_capacity(alloc, script.len())?;
     'events: for event in script {

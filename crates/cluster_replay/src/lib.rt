@@ -1,33 +1,31 @@
-//! A cluster's run by one thread: from the rows of an input to the printed path of each packet.
+//! A cluster's run by one thread: from the rows of an input to the printed reply of each event.
 //!
 //! A contract sees an input as what it comes to: its report, its first bad row, or its first block past a limit
-//! (`specs/Outcome.antt`). The rows after `begin` are a script of events (`specs/Script.antt`), each event gets its reply
-//! (`specs/Replies.antt`), which is a path of its packet (`specs/Path.antt`), and the report prints both
-//! (`specs/Report.antt`). A `Cluster` is seen as its size and the flows of its opening (`specs/State.antt`).
+//! (`specs/Outcome.antt`, and row by row `specs/FirstBad.antt`); `specs/Headline.antt` says what stands in the output of a
+//! run, in the words of `replay_model`. A `Cluster` is seen as how far the run has come: its opening, what each owner has
+//! accepted, and how many of each owner's turns each node has taken (`specs/Cluster.antt`).
 //!
-//! Proved: `replay` gives its input's outcome, or want of memory. Only tested: that memory suffices.
+//! Proved: `replay` gives its input's outcome, or want of memory; its text is a run's. `Cluster::handle` answers each event
+//! as the model does by the events before it, and after want of memory answers so for ever. Only tested: that memory
+//! suffices. No clause says that the replies are taken from the nodes' tables and FIBs.
 #![tactic(auto)]
 
 mod answering;
 mod cluster;
-mod event;
 mod fault;
-mod fib;
 mod law;
-mod lines;
 mod node;
+mod opening;
 mod replaying;
-mod reply;
-mod reporting;
-mod script;
 
-pub use cluster::{Cluster, open};
-pub use event::Event;
+pub use cluster::Cluster;
 pub use fault::InputFault;
-pub use law::{first_bad_row_law, replies_are_paths_law};
+pub use law::{first_bad_row_law, openings_can_be_opened, replays_are_runs};
+pub use opening::open;
+pub use packet_reader::{Event, Part};
+pub use replay_model::Reply;
 pub use replaying::replay;
-pub use reply::Reply;
-pub use reporting::report;
+pub use run_report::report;
 
 #[cfg(test)]
 mod tests;

@@ -1,25 +1,25 @@
 ghost use Rattle.std.specs.Prelude.{◌≤◌, IfOk, length};
 ghost use Rattle.out_of_memory.specs.Answer.{Answers};
 ghost use Rattle.flow_types.specs.Input.{most_octets};
+ghost use Rattle.packet_reader.specs.declared.mode.Mode.TheVariants.{Replay};
 ghost use Rattle.cluster_replay.specs.Limits.{named_fault};
 ghost use Rattle.cluster_replay.specs.Outcome.{outcome};
 ghost use Rattle.cluster_replay.specs.Headline.{IsRunOf};
-ghost use Rattle.cluster_replay.specs.Headline.Mode.{Replay};
 
 use crate::answering::replies;
-use crate::cluster::open;
 use crate::fault::InputFault;
-use crate::reporting::report;
-use crate::script::read_script;
+use crate::opening::open;
 use csv_rows::RowReader;
 use flow_reader::read_opening_from;
+use packet_reader::{Mode, read_script_from};
+use run_report::report;
 use std::alloc::Global;
 use std::thread::Threads;
 
 /// The printed run of an input: the rows up to `begin` are read, then the script, the table is built, each event gets its
 /// reply, and the report prints them. The fault is the first row that breaks a rule, or else the first block that is past a
 /// limit.
-#[tactic(auto, using(crate::proofs::Replied::length_replayed, crate::proofs::RunFacts::replay_runs), unfolding(crate::specs::Outcome::outcome))]
+#[tactic(auto, unfolding(crate::specs::Outcome::outcome))]
 pub fn replay<R: Threads>(
     rt: &R,
     alloc: Global,
@@ -34,7 +34,13 @@ pub fn replay<R: Threads>(
 {
     let mut reader = RowReader::new(alloc, bytes);
     let opening = read_opening_from(alloc, &mut reader)?;
-    let script = read_script(alloc, reader, opening.begin_row, opening.shape.nodes())?;
+    let script = read_script_from(
+        alloc,
+        &mut reader,
+        opening.begin_row,
+        opening.shape,
+        Mode::Replay,
+    )?;
     let mut cluster = match open(rt, alloc, &opening, workers) {
         Ok(cluster) => cluster,
         Err(fault) => return Err(fault),

@@ -5,7 +5,8 @@ use Rattle.flow_types.specs.Input.{most_octets}
 use Rattle.sb_io.specs.Streams.{ReadsAll}
 use Rattle.cluster_replay.specs.declared.fault.InputFault.{InputFault}
 use Rattle.cluster_replay.specs.declared.fault.InputFault.TheVariants.{Bad, BlockFull, RowsFull, OutOfMemory}
-use Rattle.cluster_replay.specs.Headline.{Mode, IsRunOf}
+use Rattle.packet_reader.specs.declared.mode.Mode.{Mode}
+use Rattle.cluster_replay.specs.Headline.{IsRunOf}
 use Rattle.cluster_replay.specs.Outcome.{outcome}
 use Rattle.scalebricks.specs.Status.{code}
 use Rattle.scalebricks.specs.Status.Status.{Done, InputRefused, NoMemory, TooLarge}

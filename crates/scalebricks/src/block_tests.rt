@@ -34,7 +34,7 @@ fn answers(
     }
 }
 
-/// The key with this source port. The rows of `flow_row` and `packet_row` say it.
+/// The key with this source port. The rows of `flow_row`, `set_row` and `packet_row` say it.
 fn key_at(source_port: u16) -> FlowKey {
     FlowKey {
         source: 0x0A00_0001,
@@ -59,6 +59,14 @@ fn flow_row(text: &mut String, port: u16, node: u8) -> Result<(), Fail> {
     Ok(())
 }
 
+fn set_row(text: &mut String, port: u16, node: u8) -> Result<(), Fail> {
+    writeln!(
+        text,
+        "set,10.0.0.1,192.0.2.7,{port},443,6,{node},{port},1.2.3.4"
+    )?;
+    Ok(())
+}
+
 fn packet_row(text: &mut String, port: u16) -> Result<(), Fail> {
     writeln!(text, "packet,0,10.0.0.1,192.0.2.7,{port},443,6")?;
     Ok(())
@@ -75,7 +83,8 @@ fn ports_of_one_bucket(alloc: Global, shape: Shape) -> Result<Vec<u16>, Fail> {
     Ok(ports)
 }
 
-// 64 flows of one bucket that no index tells apart are kept as rows; a block has room for no 65th.
+// 64 flows of one bucket that no index tells apart are kept as rows; a block has room for no 65th, neither when it is opened
+// nor afterwards.
 #[test]
 fn keeps_rows_of_flows_that_no_index_serves(rt: HostRuntime) -> Result<(), Fail> {
     let shape = Shape::new(2, 1).ok_or("shape")?;
@@ -98,8 +107,18 @@ fn keeps_rows_of_flows_that_no_index_serves(rt: HostRuntime) -> Result<(), Fail>
     assert!(rt; !separable(entries.as_slice(), 1));
     entries.push(entry_at(ports[64], 0))?;
     assert!(rt; !separable(entries.as_slice(), 1));
+    set_row(&mut packets, ports[64], 0)?;
+    packet_row(&mut packets, ports[0])?;
+    packet_row(&mut packets, ports[64])?;
     packets.push_str("end\n")?;
-    want.push_str("done packets 64 found 64 unknown 0\n")?;
+    let first = ports[0];
+    writeln!(
+        want,
+        "set refused rowsfull needed 65 free 64\n\
+         packet 64 in 0 to 0 hops 0 seen 0 fib 0 teid {first} base 1.2.3.4\n\
+         packet 65 in 0 seen 0 unknown\n\
+         done packets 66 found 65 unknown 1"
+    )?;
     let input = format!(in rt.alloc(); "{rows}{packets}")?;
     answers(&rt, &input, DONE, &want)?;
     flow_row(&mut rows, ports[64], 0)?;
@@ -113,8 +132,13 @@ fn refuses_a_block_with_too_many_flows(rt: HostRuntime) -> Result<(), Fail> {
     'flows: for port in 0..1536 {
         flow_row(&mut rows, port, 0)?;
     }
-    let input = format!(in rt.alloc(); "{rows}begin\nend\n")?;
-    answers(&rt, &input, DONE, "done packets 0 found 0 unknown 0\n")?;
+    let mut updates = String::new(rt.alloc());
+    set_row(&mut updates, 1536, 0)?;
+    set_row(&mut updates, 7, 0)?;
+    let input = format!(in rt.alloc(); "{rows}begin\n{updates}end\n")?;
+    let want = "set refused blockfull block 0\nset accepted owner 0 turn 1\n\
+        done packets 0 found 0 unknown 0\n";
+    answers(&rt, &input, DONE, want)?;
     flow_row(&mut rows, 1536, 0)?;
     let input = format!(in rt.alloc(); "{rows}begin\nend\n")?;
     answers(&rt, &input, INPUT_REFUSED, "refused block 0 BlockFull\n")

@@ -4,7 +4,7 @@ ghost use Rattle.flow_types.specs.Input.{most_octets};
 ghost use Rattle.sb_io.specs.Faults.{Rose};
 ghost use Rattle.sb_io.specs.Streams.{ReadsCount, AppendsPart};
 ghost use Rattle.cluster_replay.specs.Headline.{IsRunOf};
-ghost use Rattle.cluster_replay.specs.Headline.Mode.{Replay};
+ghost use Rattle.packet_reader.specs.declared.mode.Mode.TheVariants.{Replay};
 ghost use Rattle.cluster_replay.specs.Outcome.{outcome};
 ghost use Rattle.scalebricks.specs.Printed.{printed, IsRefused};
 ghost use Rattle.scalebricks.specs.Run.{AppendsRun, IsCommand, IsReadable, OfInput, outcome_status, status_of};

@@ -22,7 +22,7 @@ pub fn one_word(alloc: Global, word: &str) -> Result<Vec<String>, Fail> {
 
 #[test]
 fn answers_each_input(rt: HostRuntime) -> Result<(), Fail> {
-    let cases: [Case; 10] = [
+    let cases: [Case; 12] = [
         (
             "cluster,4,1\nbegin\npacket,0,10.0.0.1,192.0.2.7,1000,443,6\nend\n",
             DONE,
@@ -75,9 +75,29 @@ fn answers_each_input(rt: HostRuntime) -> Result<(), Fail> {
             "refused row 4 AfterEnd\n",
         ),
         (
-            "cluster,4,1\nbegin\nsync\nend\n",
-            INPUT_REFUSED,
-            "refused row 3 Kind\n",
+            "cluster,4,1\nbegin\ndel,10.0.0.1,192.0.2.7,1000,443,6\n\
+             packet,0,10.0.0.1,192.0.2.7,1000,443,6\nend\n",
+            DONE,
+            "del refused absent\npacket 0 in 0 to 0 hops 0 seen 0 fib 0 unknown\n\
+             done packets 1 found 0 unknown 1\n",
+        ),
+        // What stands already is set.
+        (
+            "cluster,4,1\nflow,10.0.0.1,192.0.2.7,1000,443,6,2,77,192.168.0.9\nbegin\n\
+             set,10.0.0.1,192.0.2.7,1000,443,6,2,77,192.168.0.9\nsync\n\
+             packet,0,10.0.0.1,192.0.2.7,1000,443,6\nend\n",
+            DONE,
+            "set accepted owner 0 turn 1\n\
+             packet 0 in 0 to 2 hops 1 seen 1 fib 1 teid 77 base 192.168.0.9\n\
+             done packets 1 found 1 unknown 0\n",
+        ),
+        (
+            "cluster,4,1\nflow,10.0.0.1,192.0.2.7,1000,443,6,2,77,192.168.0.9\nbegin\n\
+             del,10.0.0.1,192.0.2.7,1000,443,6\nsync\n\
+             packet,0,10.0.0.1,192.0.2.7,1000,443,6\nend\n",
+            DONE,
+            "del accepted owner 0 turn 1\npacket 0 in 0 to 0 hops 0 seen 1 fib 1 unknown\n\
+             done packets 1 found 0 unknown 1\n",
         ),
     ];
     let alloc = rt.alloc();
