@@ -1,5 +1,5 @@
 -- The node that a look answers is the one that the record gives.
-use Rattle.std.proofs.Common.{◌≡◌, ℕ, ◌+◌, ◌%◌, ◌^◌, ◌<◌, ◌≤◌, List, [], ◌∷◌, length, get_or, set, refl, sym, ap, ◌∙◌, subst, arith, if◌then◌else◌, eq-eqb, Bool, Option, Some, None, get_or-set_other, get_or-set_same}
+use Rattle.std.proofs.Common.{◌≡◌, ℕ, zero, suc, ◌+◌, ◌/◌, ◌%◌, ◌^◌, ◌<◌, ◌≤◌, List, [], ◌∷◌, ◌++◌, length, get_or, set, append_assoc, le_refl, refl, sym, ap, ◌∙◌, subst, arith, if◌then◌else◌, eq-eqb, Bool, Option, Some, None, get_or-set_other, get_or-set_same}
 use mathlib.Core.Logic.{dite}
 use native.Mathlib.Decide.{ℕ_discrete}
 use Rattle.atomic_table.specs.Table.{Me}
@@ -22,8 +22,8 @@ use Rattle.group_cell.specs.Opening.{Opened}
 use Rattle.group_cell.specs.Layout.{address, data_word, datum}
 use Rattle.group_cell.specs.Rule.{HasLoad, HasLoaded, Holds, bits_of, latest}
 use Rattle.group_cell.specs.Plays.{reader_view, IsReader, load, begun_look, ended_in, looked}
-use Rattle.group_cell.specs.Seating.{Place, GoesOn, HasBegun, IsLooking, IsFound, Reads, StandsFound, RowsGive, forgotten, last_look, loads_of, look_in, the_look}
-use Rattle.group_cell.proofs.Finding.{gives, stands_found}
+use Rattle.group_cell.specs.Seating.{Place, GoesOn, HasBegun, IsLooking, IsFound, Reads, StandsFound, RowsGive, data_loads, forgotten, last_look, loads_of, look_in, the_look}
+use Rattle.group_cell.proofs.Finding.{gives, loads_last, loads_more, stands_found}
 
 two_items : (words : List ℕ) (content : GroupRecord) → length words ≡ 2 → ((j : ℕ) → j < 2 → get_or words j 0 ≡ get_or (words_of content) j 0) → words ≡ words_of content
 two_items [] content two each = absurd (omega arith)
@@ -55,16 +55,39 @@ loaded_answer bits nodes loads at content words key found result h two each foun
     own_answer bits nodes h.words at content words key found result h.holds two (λ j less. (h.fresh _ (each j less)).data_words j less refl)
     (λ many. stands_found h.words loads at key found h.fresh (found_is many)) decoded
 
--- one more data word is loaded
-pub one_more_word : (loads loads' : List Load) (at : Home) (number found : ℕ) (words : List ℕ) → number < length words → ((x : Load) → HasLoad loads x → HasLoad loads' x) → HasLoad loads' (load (data_word at number) found)
-    → ((j : ℕ) → j < number → HasLoad loads (load (data_word at j) (get_or words j 0))) → (j : ℕ) → j < number + 1 → HasLoad loads' (load (data_word at j) (get_or (set words number found) j 0))
-one_more_word loads loads' at number found words room kept it before j less = dite (ℕ_discrete j number)
-    (λ e. let value : get_or (set words number found) j 0 ≡ found = ap (λ (k : ℕ). get_or (set words number found) k 0) e ∙ get_or-set_same words number found 0 room in
-    subst (HasLoad loads') (λ l. load (data_word at (sym e l)) (sym value l)) it)
-    (λ other. let value : get_or (set words number found) j 0 ≡ get_or words j 0 = get_or-set_other words number j found 0 other in
-    subst (HasLoad loads') (λ l. load (data_word at j) (sym value l)) (kept _ (before j (omega arith))))
+-- the loads of the data words below a number
+abbrev pub first_loads : Home → (found : List ℕ) → (number : ℕ) → List Load
+first_loads at found zero = []
+first_loads at found (suc number) = first_loads at found number ++ load (data_word at number) (get_or found number 0) ∷ []
 
--- the same of words that the writer loads
+-- a later word that is found doesn't change them
+first_loads-kept : (at : Home) (words : List ℕ) (number found k : ℕ) → k ≤ number → first_loads at (set words number found) k ≡ first_loads at words k
+first_loads-kept at words number found zero le = refl
+first_loads-kept at words number found (suc k) le = λ i. first_loads-kept at words number found k (omega arith) i
+    ++ load (data_word at k) (get_or-set_other words number k found 0 (λ (e : k ≡ number). let less = le in absurd (omega arith)) i) ∷ []
+
+-- one more data word is loaded
+pub one_more_load : (before loads loads' : List Load) (at : Home) (number word found : ℕ) (words : List ℕ) → number < length words → word ≡ data_word at number
+    → loads ≡ before ++ first_loads at words number → loads' ≡ loads ++ load word found ∷ [] → loads' ≡ before ++ first_loads at (set words number found) (number + 1)
+one_more_load before loads loads' at number word found words room here was is =
+    let kept = first_loads-kept at words number found number (le_refl number) in let same = get_or-set_same words number found 0 room in let next : suc number ≡ number + 1 = omega arith in
+    is ∙ ((λ i. was i ++ load (here i) found ∷ []) ∙ (append_assoc before (first_loads at words number) (load (data_word at number) found ∷ [])
+    ∙ ((λ i. before ++ (sym kept i ++ load (data_word at number) (sym same i) ∷ [])) ∙ ap (λ (n : ℕ). before ++ first_loads at (set words number found) n) next)))
+
+-- each data word is loaded
+pub has_datum : (before loads : List Load) (at : Home) (words : List ℕ) → loads ≡ before ++ data_loads at words → (j : ℕ) → j < 2 → HasLoad loads (load (data_word at j) (get_or words j 0))
+has_datum before loads at words is j less = subst (λ (ls : List Load). HasLoad ls (x j)) (sym is) (dite (ℕ_discrete j 0)
+    (λ e. subst (λ (k : ℕ). HasLoad (before ++ x 0 ∷ x 1 ∷ []) (x k)) (sym e) (subst (λ (ls : List Load). HasLoad ls (x 0)) parts (loads_more (before ++ x 0 ∷ []) (x 1 ∷ []) (x 0) (loads_last before (x 0)))))
+    (λ other. let one : j ≡ 1 = omega arith in
+    subst (λ (k : ℕ). HasLoad (before ++ x 0 ∷ x 1 ∷ []) (x k)) (sym one) (subst (λ (ls : List Load). HasLoad ls (x 1)) parts (loads_last (before ++ x 0 ∷ []) (x 1)))))
+  where
+    x : ℕ → Load
+    x k = load (data_word at k) (get_or words k 0)
+
+    parts : (before ++ x 0 ∷ []) ++ x 1 ∷ [] ≡ before ++ x 0 ∷ x 1 ∷ []
+    parts = append_assoc before (x 0 ∷ []) (x 1 ∷ [])
+
+-- one more data word is loaded by the writer
 pub one_more_own : (ws : List ℕ) (at : Home) (number found : ℕ) (words : List ℕ) → number < length words → found ≡ datum ws at number → ((j : ℕ) → j < number → get_or words j 0 ≡ datum ws at j)
     → (j : ℕ) → j < number + 1 → get_or (set words number found) j 0 ≡ datum ws at j
 one_more_own ws at number found words room is before j less = dite (ℕ_discrete j number)
@@ -112,6 +135,9 @@ module _ (s0 s1 s3 t : Place) (at : Home) (first second : ℕ) (h : HasBegun s0 
   pub seen_now : (reader_view t.me.0).seen ≡ (reader_view s3.me.0).seen
   seen_now = ap (λ (m : Me ℕ View). (reader_view m.0).seen) e.me
 
+  pub counted_now : first / 2 ≡ count (reader_view t.me.0).seen at
+  counted_now = sym (ap (λ (ps : List Publication). count ps at) (seen_now ∙ seen_then) ∙ h.counted)
+
 -- the node of the record of this version, as a clause says it
 pub node_is : (r opening : Opened) (size : Size) (was now : List Publication) (loads : List Load) (at : Home) (version : ℕ) (words : List ℕ) (key : FlowKey) (found result : Option ℕ)
     → r ≡ opening → opening.size ≡ size → was ≡ now → version ≡ count now at → HasLoaded (bits_of r) loads at (latest r was at) → length words ≡ 2
@@ -129,6 +155,19 @@ node_is r opening size was now loads at version words key found result one_openi
 pub served_below : (bits : ℕ) (pairs : List Pair) (words : List ℕ) → AreServedWords bits pairs words → get_or words 0 0 < 2 ^ 48
 served_below bits pairs words h = subst (λ (n : ℕ). n < 2 ^ 48) (sym (ap (λ (ws : List ℕ). get_or ws 0 0) h.spelled))
     (word_below (pair_at pairs 0) (pair_at pairs 1) (pair_at_sized pairs 0 h.sized) (pair_at_sized pairs 1 h.sized))
+
+-- and so does the one that a look has loaded of the record that stood there
+few_loaded : (bits : ℕ) (loads : List Load) (at : Home) (pairs : List Pair) (found : ℕ) → HasLoaded bits loads at (Served pairs) → HasLoad loads (load (data_word at 0) found) → found < 2 ^ 48
+few_loaded bits loads at pairs found h it = subst (λ (n : ℕ). n < 2 ^ 48) (sym ((h.fresh _ it).data_words 0 (omega arith) refl ∙ h.holds.data_words 0 (omega arith)))
+    (served_below bits pairs (words_of (Served pairs)) h.holds.packs)
+
+pub few_of_version : (r opening : Opened) (was now : List Publication) (loads : List Load) (at : Home) (version found : ℕ) (pairs : List Pair)
+    → r ≡ opening → was ≡ now → version ≡ count now at → HasLoaded (bits_of r) loads at (latest r was at) → HasLoad loads (load (data_word at 0) found)
+    → record_at opening.images now at version ≡ Served pairs → found < 2 ^ 48
+few_of_version r opening was now loads at version found pairs one_opening one_list counted whole it served =
+    let one_record : latest r was at ≡ Served pairs =
+    (λ i. record_at (one_opening i).images (one_list i) at (count (one_list i) at)) ∙ (ap (λ (n : ℕ). record_at opening.images now at n) (sym counted) ∙ served) in
+    few_loaded (bits_of r) loads at pairs found (subst (HasLoaded (bits_of r) loads at) one_record whole) it
 
 pub found_is : (bits nodes : ℕ) (words : List ℕ) (key : FlowKey) (found : Option ℕ) → 2 ^ 48 ≤ get_or words 0 0 → (content : GroupRecord) → PacksTo bits (packed_of content) words → RowsGive content key found → found ≡ decode content nodes key
 unfolding decode

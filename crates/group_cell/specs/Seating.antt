@@ -101,6 +101,10 @@ the_look s = look_in (last_look s)
 abbrev pub loads_of : Place → List Load
 loads_of s = (the_look s).loads
 
+-- a load of each of a group's two data words, which found these numbers
+abbrev pub data_loads : Home → (found : List ℕ) → List Load
+data_loads at found = load (data_word at 0) (slice_index found 0) ∷ load (data_word at 1) (slice_index found 1) ∷ []
+
 -- the seat is in a look, before its second load of the sequence word
 pub record IsLooking (s : Place) : Type 0 where
   pub reads : IsReader s.me.0

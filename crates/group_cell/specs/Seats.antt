@@ -1,7 +1,9 @@
 -- What a contract sees of a table and its seats.
-use Rattle.std.specs.Prelude.{◌≡◌, ◌≢◌, ◌⊎◌, ℕ, zero, suc, ◌+◌, ◌*◌, ◌%◌, ◌==◌, List, Option, Some, if◌then◌else◌}
+use Rattle.std.specs.Prelude.{◌≡◌, ◌≢◌, ◌⊎◌, ℕ, zero, suc, ◌+◌, ◌*◌, ◌%◌, ◌==◌, List, [], ◌∷◌, map, Option, Some, if◌then◌else◌}
 use Rattle.flow_types.specs.declared.key.FlowKey.{FlowKey}
+use Rattle.group_search.specs.declared.entry.Pair.{Pair}
 use Rattle.group_search.specs.declared.published.Publication.{Publication}
+use Rattle.group_search.specs.declared.record.GroupRecord.TheVariants.{Served}
 use Rattle.group_search.specs.Canon.{rows_in}
 use Rattle.group_search.specs.Decoding.{decode}
 use Rattle.group_search.specs.Home.{Home}
@@ -11,10 +13,10 @@ use Rattle.group_cell.specs.declared.table.WriterSeat.{WriterSeat}
 use Rattle.group_cell.specs.declared.table.ReaderSeat.{ReaderSeat}
 use Rattle.group_cell.specs.declared.view.Load.{Load}
 use Rattle.group_cell.specs.Opening.{Opened}
-use Rattle.group_cell.specs.Layout.{address}
+use Rattle.group_cell.specs.Layout.{address, data_word}
 use Rattle.group_cell.specs.Rule.{latest}
 use Rattle.group_cell.specs.Plays.{writer_view, reader_view}
-use Rattle.group_cell.specs.Seating.{last_look}
+use Rattle.group_cell.specs.Seating.{last_look, loads_of}
 
 abbrev pub the_group : (block group : ℕ) → Home
 the_group block group = record { block = block; group = group }
@@ -59,6 +61,15 @@ pub record FindsNode (opening : Opened) (reader : ReaderSeat) (at : Home) (key :
   pub version_is : version ≡ count (seen reader) at
   pub node_is : node ≡ node_at_version opening (seen reader) at version key
   pub this_look : HasLooked reader at (2 * version) (2 * version)
+
+-- the words that the reader's last look loaded between its two loads of the sequence word, in order
+abbrev pub loaded_words : ReaderSeat → List ℕ
+loaded_words reader = map (λ l. l.word) (loads_of reader.seat)
+
+-- where the group's record of this version is a served one, the last look loaded the two data words, and no place
+abbrev pub LoadsDataAlone : Opened → ReaderSeat → Home → (version : ℕ) → Type 0
+LoadsDataAlone opening reader at version = (pairs : List Pair) → record_at opening.images (seen reader) at version ≡ Served pairs
+    → loaded_words reader ≡ data_word at 0 ∷ data_word at 1 ∷ []
 
 -- the group was in writing when this look began, or its sequence word was another when it ended
 pub record Changes (reader : ReaderSeat) (at : Home) (first second : ℕ) : Type 0 where

@@ -2,8 +2,9 @@
 //!
 //! A group's record stands in a sequence word and two data words, and its rows, if it has any, in places of its block.
 //! The writer makes the sequence word odd, writes, and makes it even again; a look that finds the same even number
-//! before and after has read one whole published record, and any other look answers `Changing`. For a gateway: share
-//! the `CellTable`, give its `WriterSeat` to the thread that applies updates and a `ReaderSeat` to each that routes.
+//! before and after has read one whole published record, and any other look answers `Changing`. Of a served record it
+//! loads the two data words and no place. For a gateway: share the `CellTable`, give its `WriterSeat` to the thread that
+//! applies updates and a `ReaderSeat` to each that routes.
 //!
 //! A contract sees the list of what the writer has published and, of each reader, how much of it the reader has seen
 //! (`specs/Seats.antt`; counts and versions are those of `group_search`'s `specs/Published.antt`). `specs/Rule.antt` says

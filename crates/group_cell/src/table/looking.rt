@@ -1,14 +1,12 @@
 //! The readers' steps.
-ghost use Rattle.std.specs.Prelude.{◌≡◌, ℕ, ◌+◌, ◌^◌, ◌<◌, ◌≤◌, ◌∷◌, [], ◌++◌, IfErr, IfOk, length, slice_index};
-ghost use Rattle.group_search.specs.Home.{Home};
+ghost use Rattle.std.specs.Prelude.{◌≡◌, ◌+◌, ◌^◌, ◌<◌, ◌≤◌, ◌∷◌, [], ◌++◌, IfErr, IfOk, length};
 ghost use Rattle.group_search.specs.Published.{Extends};
 ghost use Rattle.group_cell.specs.Layout.{home_of};
-ghost use Rattle.group_cell.specs.Layout as layout;
-ghost use Rattle.group_cell.specs.Rule.{bits_of, latest, HasLoad, HasLoaded, IsEven, IsIn};
+ghost use Rattle.group_cell.specs.Rule.{bits_of, latest, HasLoaded, IsEven, IsIn};
 ghost use Rattle.group_cell.specs.Plays.{reader_view, IsReader, looked};
 ghost use Rattle.group_cell.specs.Plays as plays;
-ghost use Rattle.group_cell.specs.Seating.{GoesOn, HasBegun, IsAt, IsFound, IsLooking, Reads, loads_of, the_look};
-ghost use Rattle.group_cell.specs.Seats.{FindsNode, Changes, IsReaderOf, looks, opened_with, seen, the_group};
+ghost use Rattle.group_cell.specs.Seating.{GoesOn, HasBegun, IsAt, IsFound, IsLooking, Reads, data_loads, loads_of, the_look};
+ghost use Rattle.group_cell.specs.Seats.{FindsNode, Changes, IsReaderOf, LoadsDataAlone, looks, opened_with, seen, the_group};
 
 use crate::layout::{DATA_WORDS, PLACES, data_word, high_word, low_word, sequence_word, tag};
 use crate::plays::{EndLook, Load, Place, Shelf, StartLook};
@@ -47,7 +45,7 @@ fn gather(shelf: &Shelf, seat: &mut Place, at: Address) -> [u64; DATA_WORDS]
     ensures looking { IsLooking seat.new }
     ensures goes_on { GoesOn seat.old seat.new }
     ensures width { length result ≡ 2 }
-    ensures loads { (j : ℕ) → j < 2 → HasLoad (loads_of seat.new) (plays.load (layout.data_word (home_of at) j) (slice_index result j)) }
+    ensures loads { loads_of seat.new ≡ loads_of seat.old ++ data_loads (home_of at) result }
 {
     let mut words = [0; DATA_WORDS];
     'loads: for number in 0..DATA_WORDS {
@@ -93,6 +91,7 @@ fn search(shelf: &Shelf, seat: &mut Place, at: Address, datum: u64, key: FlowKey
     ensures looking { IsLooking seat.new }
     ensures goes_on { GoesOn seat.old seat.new }
     ensures found { 2 ^ 48 ≤ datum → IsFound (loads_of seat.new) (home_of at) 64 key result }
+    ensures no_loads { datum < 2 ^ 48 → loads_of seat.new ≡ loads_of seat.old }
 {
     if !has_rows(datum) {
         return None;
@@ -138,6 +137,7 @@ impl CellTable {
         ensures later { Extends (seen reader.old) (seen reader.new) }
         ensures looks { looks reader.new ≡ looks reader.old + 1 }
         ensures answer { IfOk result (λ l. FindsNode (opened_with self.now) reader.new (the_group block group) key l.version l.node) }
+        ensures served { IfOk result (λ l. LoadsDataAlone (opened_with self.now) reader.new (the_group block group) l.version) }
         ensures changing { IfErr result (λ c. Changes reader.new (the_group block group) c.first c.second) }
     {
         let at = Address { block, group };
