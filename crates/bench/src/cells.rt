@@ -1,6 +1,6 @@
 //! Looks at groups that are rewritten in place, and publications, by one thread and by several.
 
-ghost use Rattle.std.specs.Prelude.{◌≡◌, ◌+◌, ◌<◌, ◌≤◌, All, IfOk, length, sum_by};
+ghost use Rattle.std.specs.Prelude.{◌≡◌, ◌+◌, ◌<◌, ◌≤◌, All, IfOk, IfSome, length, sum_by};
 ghost use Rattle.flow_types.specs.Size.{value_bits};
 ghost use Rattle.group_search.specs.Canon.{rows_in};
 ghost use Rattle.group_search.specs.Image.{Image};
@@ -25,7 +25,7 @@ const TIMES: u64 = 5_000_000;
 /// What a thread did: how long it took, how many of its looks met a group that was being rewritten, and the sum of the
 /// nodes that the others found.
 #[derive(Clone, Copy)]
-struct Run {
+pub struct Run {
     taken: Duration,
     changing: u64,
     nodes: u64,
@@ -34,12 +34,7 @@ struct Run {
 /// Prints a line for each thread: its name, how often it looked or published, the nanoseconds, how many of its looks
 /// found nothing, and the sum of the nodes that the others found.
 pub fn figures<R: Print + AllocGlobal + Clock + Threads + Sync>(rt: &R) -> io::Result<()> {
-    let alloc = rt.alloc();
-    let Some(shape) = Shape::new(16, 256) else {
-        return Ok(());
-    };
-    let images = images(alloc)?;
-    let Ok((table, mut writer)) = CellTable::open(alloc, shape, images.as_slice()) else {
+    let Some((table, mut writer)) = opened(rt.alloc())? else {
         return println!(rt; "no memory for a table");
     };
     let table = &table;
@@ -58,7 +53,25 @@ pub fn figures<R: Print + AllocGlobal + Clock + Threads + Sync>(rt: &R) -> io::R
     tell(rt, "cells_look_of_two", b)
 }
 
-fn tell(rt: &impl Print, name: &str, run: Run) -> io::Result<()> {
+/// A table of 256 blocks, or `None` for want of memory.
+pub fn opened(alloc: Global) -> io::Result<Option<(CellTable, WriterSeat)>>
+    ensures writer { IfOk result (λ found. IfSome found (λ made. IsWriterOf made.0 made.1)) }
+    ensures blocks { IfOk result (λ found. IfSome found (λ made. length (opened_with made.0).images ≡ 256)) }
+    ensures bits { IfOk result (λ found. IfSome found (λ made. value_bits (opened_with made.0).size.nodes ≡ 4)) }
+    ensures few { IfOk result (λ found. IfSome found (λ made. length (published made.1) ≡ 0)) }
+{
+    let Some(shape) = Shape::new(16, 256) else {
+        return Ok(None);
+    };
+    let images = images(alloc)?;
+    match CellTable::open(alloc, shape, images.as_slice()) {
+        Ok(made) => Ok(Some(made)),
+        Err(_) => Ok(None),
+    }
+}
+
+/// Prints the line of a thread.
+pub fn tell(rt: &impl Print, name: &str, run: Run) -> io::Result<()> {
     let nanos = run.taken.as_nanos();
     println!(rt; "{name} {TIMES} {nanos} {} {}", run.changing, run.nodes)
 }
@@ -71,7 +84,7 @@ fn since(rt: &impl Clock, start: io::Result<Instant>) -> Duration {
 }
 
 /// Looks keys up in groups over the whole table.
-fn looks(rt: &impl Clock, table: &CellTable, mut reader: ReaderSeat) -> Run
+pub fn looks(rt: &impl Clock, table: &CellTable, mut reader: ReaderSeat) -> Run
     requires reader { IsReaderOf table.now reader }
     requires blocks { length (opened_with table.now).images ≡ 256 }
 {
@@ -121,7 +134,8 @@ fn publications(rt: &impl Clock, table: &CellTable, mut writer: WriterSeat) -> (
     (writer, run)
 }
 
-fn two_looks<R: Threads + Clock + Sync>(
+/// The looks of two threads.
+pub fn two_looks<R: Threads + Clock + Sync>(
     rt: &R,
     table: &CellTable,
     one: ReaderSeat,
@@ -135,7 +149,7 @@ fn two_looks<R: Threads + Clock + Sync>(
 }
 
 /// Publications beside the looks of one reader.
-fn beside<R: Threads + Clock + Sync>(
+pub fn beside<R: Threads + Clock + Sync>(
     rt: &R,
     table: &CellTable,
     writer: WriterSeat,

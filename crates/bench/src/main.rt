@@ -14,6 +14,7 @@ mod searching;
 mod timing;
 mod work;
 
+use std::thread::join;
 use std::{env, io};
 
 fn main(rt: HostRuntime) -> io::Result<()> {
@@ -23,7 +24,37 @@ fn main(rt: HostRuntime) -> io::Result<()> {
         None => work::checksums(&rt),
         Some(word) => match word.as_str() {
             "time" => timing::figures(&rt),
-            "cells" => cells::figures(&rt),
+            "cells" => {
+                cells::figures(&rt)?;
+                let Some((table, mut writer)) = cells::opened(rt.alloc())? else {
+                    return println!(&rt; "no memory for a table");
+                };
+                let table = &table;
+                // Calls of `join` inside one another: the outer one is proved here alone, where the runtime's type is known.
+                let one = table.reader(&mut writer);
+                let two = table.reader(&mut writer);
+                let three = table.reader(&mut writer);
+                let (a, (b, c)) = join(
+                    &rt,
+                    || cells::looks(&rt, table, one),
+                    || cells::two_looks(&rt, table, two, three),
+                );
+                cells::tell(&rt, "cells_look_of_three", a)?;
+                cells::tell(&rt, "cells_look_of_three", b)?;
+                cells::tell(&rt, "cells_look_of_three", c)?;
+                let one = table.reader(&mut writer);
+                let two = table.reader(&mut writer);
+                let three = table.reader(&mut writer);
+                let (((_writer, published), a), (b, c)) = join(
+                    &rt,
+                    || cells::beside(&rt, table, writer, one),
+                    || cells::two_looks(&rt, table, two, three),
+                );
+                cells::tell(&rt, "cells_publish_beside_three", published)?;
+                cells::tell(&rt, "cells_look_of_three_beside_a_writer", a)?;
+                cells::tell(&rt, "cells_look_of_three_beside_a_writer", b)?;
+                cells::tell(&rt, "cells_look_of_three_beside_a_writer", c)
+            }
             "rows" => reading::count(&rt),
             _ => eprintln!(&rt; "bench: the words are none, `time`, `cells` or `rows`"),
         },
