@@ -44,6 +44,16 @@ fn main(rt: HostRuntime) -> io::Result<()> {
                 cells::tell(&rt, "cells_look_of_three", c)?;
                 let one = table.reader(&mut writer);
                 let two = table.reader(&mut writer);
+                let (((mut writer, published), a), b) = join(
+                    &rt,
+                    || cells::beside(&rt, table, writer, one),
+                    || cells::looks(&rt, table, two),
+                );
+                cells::tell(&rt, "cells_publish_beside_two", published)?;
+                cells::tell(&rt, "cells_look_of_two_beside_a_writer", a)?;
+                cells::tell(&rt, "cells_look_of_two_beside_a_writer", b)?;
+                let one = table.reader(&mut writer);
+                let two = table.reader(&mut writer);
                 let three = table.reader(&mut writer);
                 let (((_writer, published), a), (b, c)) = join(
                     &rt,
