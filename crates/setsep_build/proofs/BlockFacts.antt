@@ -3,7 +3,7 @@ use Rattle.std.proofs.Common.{ℕ, ◌≡◌, ◌∙◌, ◌≤◌, ◌+◌, Lis
 use Rattle.block_layout.specs.Limits.{group_count, most_keys}
 use Rattle.group_search.specs.Limits.{most_rows}
 use Rattle.group_search.specs.declared.record.GroupRecord.{GroupRecord}
-use Rattle.setsep_build.specs.declared.block.Placed.{Placed}
+use Rattle.setsep_build.specs.declared.placed.Placed.{Placed}
 use Rattle.setsep_build.specs.Placing.{groups_of}
 use Rattle.setsep_build.specs.Block.{IsImageOf, block_choices, needed_below, needed_in, group_record, records_below}
 use Rattle.setsep_build.proofs.Lists.{AreAll}

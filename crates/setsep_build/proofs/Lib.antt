@@ -1,8 +1,13 @@
 pub mod Lists
-pub mod MoreSpread
+pub mod Neighbours
+pub mod InOrder
+pub mod CutFacts
 pub mod MoreGathered
 pub mod MoreRecords
 pub mod BlockFacts
 pub mod Lifted
+pub mod Permuted
 pub mod FirstPast
-pub mod SoFar
+pub mod JoinedParts
+pub mod RunFacts
+pub mod WholeBuild

@@ -6,12 +6,13 @@ use Rattle.std.proofs.lemmas.Grind.{get_or-set_at}
 use Rattle.std.proofs.lemmas.List.{append-nil, get_or-set_other, get_or_past, map-append}
 use Rattle.std.proofs.lemmas.List.Elements.{filter_more}
 use Rattle.group_search.specs.declared.entry.Entry.{Entry}
-use Rattle.setsep_build.specs.declared.block.Placed.{Placed}
+use Rattle.setsep_build.specs.declared.placed.Placed.{Placed}
 use Rattle.setsep_build.specs.Placing.{is_group, entry_in, gathered}
 
 -- what is read past the end of a list of placed flows
 abbrev pub nobody : Placed
 nobody = record {
+  block = 0;
   bucket = 0;
   entry = record {
     pair = record { g1 = 0; g2 = 0 };

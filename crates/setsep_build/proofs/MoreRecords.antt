@@ -14,7 +14,7 @@ use Rattle.group_search.specs.Build.{rows_needed}
 use Rattle.group_search.specs.Canon.{canonical}
 use Rattle.group_search.proofs.NeededRows.{without_record}
 use Rattle.group_search.proofs.Mapped.{all_pairs_mapped}
-use Rattle.setsep_build.specs.declared.block.Placed.{Placed}
+use Rattle.setsep_build.specs.declared.placed.Placed.{Placed}
 use Rattle.setsep_build.specs.Placing.{entry_in, gathered, is_group, placed_key}
 use Rattle.setsep_build.specs.Block.{needed_at, needed_below, group_record, records_below}
 use Rattle.setsep_build.proofs.Lists.{AreAll, somes_all, somes_more, sum_more}

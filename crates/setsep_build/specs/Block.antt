@@ -1,4 +1,4 @@
--- What the build makes of the flows of one block.
+-- What the build makes of the flows of one block, each where it stands.
 use Rattle.std.specs.Prelude.{ℕ, ◌≡◌, ◌<◌, ◌≤◌, List, length, map, sum, Option, IfSome}
 use Rattle.std.specs.List.{range_with_len, filter_map, slice_get}
 use Rattle.block_layout.specs.Dealing.{choices_of}
@@ -9,7 +9,7 @@ use Rattle.group_search.specs.Build.{PastLimit, rows_needed}
 use Rattle.group_search.specs.Build.PastLimit.{TooManyFlows, TooManyRows}
 use Rattle.group_search.specs.Canon.{canonical}
 use Rattle.group_search.specs.Image.{Image}
-use Rattle.setsep_build.specs.declared.block.Placed.{Placed}
+use Rattle.setsep_build.specs.declared.placed.Placed.{Placed}
 use Rattle.setsep_build.specs.declared.refused.BuildRefused.{BuildRefused}
 use Rattle.setsep_build.specs.Refused.{named_limit}
 use Rattle.setsep_build.specs.Placing.{gathered, groups_of, sizes_in}
@@ -45,6 +45,11 @@ pub record IsImageOf (bits : ℕ) (all : List Placed) (image : Image) : Type 0 w
   pub choices : image.choices ≡ block_choices all
   pub one_each : length image.records ≡ group_count
   pub records : (group : ℕ) → group < group_count → slice_get image.records group ≡ group_record bits (groups_of (block_choices all)) all group
+
+-- the block is past no limit
+pub record IsWithinIn (bits : ℕ) (all : List Placed) : Type 0 where
+  pub few : length all ≤ most_keys
+  pub few_rows : needed_in bits all ≤ most_rows
 
 -- the block has too many flows
 pub record IsFull (block : ℕ) (all : List Placed) (named : ℕ) : Type 0 where

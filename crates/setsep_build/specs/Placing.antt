@@ -1,35 +1,51 @@
--- The flows of one block as the build keeps them.
-use Rattle.std.specs.Prelude.{ℕ, ◌≡◌, ◌<◌, ◌==◌, Bool, List, [], length, map, filter, count_by, slice_index, slice_index_or}
-use Rattle.std.specs.List.{range_with_len}
+-- The flows of the table as the build keeps them: each where it stands.
+use Rattle.std.specs.Prelude.{ℕ, ◌≡◌, ◌<◌, ◌≤◌, ◌==◌, ◌⊎◌, Bool, List, [], length, map, filter, count_by, slice_index, slice_index_or, IsPermutation}
+use Rattle.std.specs.List.{range_with_len, AllAdjacentBelow}
 use Rattle.flow_types.specs.declared.key.FlowKey.{FlowKey}
 use Rattle.flow_types.specs.declared.record.Flow.{Flow}
+use Rattle.flow_types.specs.Key.{number}
 use Rattle.hash_family.specs.Hash.{place}
 use Rattle.block_layout.specs.Limits.{bucket_count}
 use Rattle.group_search.specs.declared.entry.Entry.{Entry}
-use Rattle.group_search.specs.Home.{flows_of, group_of}
+use Rattle.group_search.specs.Home.{group_of}
 use Rattle.group_search.specs.Records.{entry_of}
-use Rattle.setsep_build.specs.declared.block.Placed.{Placed}
+use Rattle.setsep_build.specs.declared.placed.Placed.{Placed}
 
--- the flow in its bucket
+-- the flow in its block and bucket
 abbrev pub placed : (blocks : ℕ) → Flow → Placed
-placed blocks flow = record { bucket = (place blocks flow.key).bucket; entry = entry_of flow }
+placed blocks flow = record { block = (place blocks flow.key).block; bucket = (place blocks flow.key).bucket; entry = entry_of flow }
 
--- the flows of a block, in their order
-unfoldable pub placed_in : (blocks block : ℕ) → List Flow → List Placed
-placed_in blocks block flows = map (placed blocks) (flows_of blocks block flows)
+-- by what the flows are put in order
+abbrev pub rank : Placed → ℕ × ℕ × ℕ
+rank one = (one.block, one.bucket, number one.entry.key)
 
--- each block has its flows
-pub record IsSpread (blocks : ℕ) (flows : List Flow) (found : List (List Placed)) : Type 0 where
-  pub count : length found ≡ blocks
-  pub each : (block : ℕ) → block < blocks → slice_index_or found block [] ≡ placed_in blocks block flows
+-- the one stands no later than the other: by the block, then by the bucket, then by the key's number
+abbrev pub IsNoLater : Placed → Placed → Type 0
+IsNoLater a b = (a.block < b.block) ⊎ ((a.block ≡ b.block) × ((a.bucket < b.bucket) ⊎ ((a.bucket ≡ b.bucket) × (number a.entry.key ≤ number b.entry.key))))
+
+-- each stands no later than the next
+abbrev pub AreInOrder : List Placed → Type 0
+AreInOrder all = AllAdjacentBelow IsNoLater all (length all)
+
+-- the flows where they stand, in order
+pub record ArePlaced (blocks : ℕ) (flows : List Flow) (all : List Placed) : Type 0 where
+  pub each : IsPermutation (map (placed blocks) flows) all
+  pub in_order : AreInOrder all
 
 abbrev pub placed_key : Placed → FlowKey
 placed_key one = one.entry.key
 
+abbrev pub is_block : (block : ℕ) → Placed → Bool
+is_block block one = one.block == block
+
+-- those of a block
+unfoldable pub placed_in : (block : ℕ) → List Placed → List Placed
+placed_in block all = filter (is_block block) all
+
 abbrev pub is_bucket : (bucket : ℕ) → Placed → Bool
 is_bucket bucket one = one.bucket == bucket
 
--- how many of the flows each bucket has
+-- how many of a block's flows each bucket has
 unfoldable pub sizes_in : List Placed → List ℕ
 sizes_in all = map (λ (bucket : ℕ). count_by (is_bucket bucket) all) (range_with_len 0 bucket_count)
 
@@ -43,7 +59,7 @@ is_group groups group one = slice_index groups one.bucket == group
 abbrev pub entry_in : Placed → Entry
 entry_in one = one.entry
 
--- the entries of one group, in their order
+-- the entries of one group of a block, in their order
 unfoldable pub gathered : (groups : List ℕ) → (group : ℕ) → List Placed → List Entry
 gathered groups group all = map entry_in (filter (is_group groups group) all)
 

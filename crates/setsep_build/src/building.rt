@@ -1,25 +1,33 @@
-ghost use Rattle.std.specs.Prelude.{◌≤◌, IfOk, IfErr};
+ghost use Rattle.std.specs.Prelude.{◌<◌, ◌≤◌, All, IfOk, IfErr, length, slice_index_or};
+ghost use Rattle.setsep_build.specs.declared.cutting.Run.{Run};
 ghost use Rattle.flow_types.specs.Map.{AreDistinct};
 ghost use Rattle.group_search.specs.Build.{IsBuild};
 ghost use Rattle.group_search.specs.Records.{AreHandled};
+ghost use Rattle.setsep_build.specs.Parts.{AreReady, ArePartsOf, IsNumbered, IsPartOf};
 ghost use Rattle.setsep_build.specs.Refused.{Refuses};
 ghost use Rattle.setsep_build.specs.Workers.{most_workers};
 
-use crate::groups::Groups;
-use crate::imaging::image_of;
+use crate::cutting::{Run, cut, runs_for};
+use crate::joining::join_parts;
+use crate::placed::Placed;
+use crate::placing::place_all;
 use crate::refused::BuildRefused;
-use crate::spreading::spread;
+use crate::running::images_of;
 use flow_types::{Flow, Shape};
 use group_search::BlockImage;
-use std::alloc::Global;
-use std::thread::Threads;
+use std::alloc::{AllocError, Global};
+use std::thread::{Threads, map_indices};
 
 /// The greatest number of workers.
 pub const MOST_WORKERS: u8 = 64;
 
 /// The image of each block of the shape, in the order of the blocks, for flows with distinct keys and nodes of the
-/// shape. It is the same for any number of workers, 1..=64. Refused, it names the first block that is past a limit.
-pub fn build<R: Threads>(
+/// shape.
+///
+/// The flows are hashed and put in order by as many threads as there are processors. The blocks are cut into runs of
+/// neighbours, at most one for each worker, 1..=64, and the runs are computed beside one another. The images are the
+/// same for any number of workers. Refused, it names the first block that is past a limit.
+pub fn build<R: Threads + Sync>(
     rt: &R,
     alloc: Global,
     shape: Shape,
@@ -33,15 +41,28 @@ pub fn build<R: Threads>(
     ensures built { IfOk result (λ images. IsBuild shape flows.now images.items) }
     ensures refused { IfErr result (λ why. Refuses shape flows.now why) }
 {
-    let _ = rt;
-    let _ = workers;
-    let blocks = spread(alloc, shape, flows)?;
-    let bits = shape.value_bits();
-    let mut images = Vec::with_capacity(alloc, blocks.len())?;
-    let mut room = Groups::new(alloc)?;
-    'images: for block in 0..shape.blocks() {
-        let placed = blocks[block as usize].as_slice();
-        images.push(image_of(alloc, bits, block, placed, &mut room)?)?;
-    }
-    Ok(images)
+    let all = place_all(rt, alloc, shape, flows)?;
+    let runs = runs_for(flows.len(), shape.blocks(), workers);
+    let cut = cut(alloc, shape.blocks(), runs)?;
+    let parts = all_parts(rt, alloc, shape.value_bits(), &all, &cut)?;
+    join_parts(alloc, parts)
+}
+
+/// What the runs give, computed beside one another.
+fn all_parts<R: Threads + Sync>(
+    rt: &R,
+    alloc: Global,
+    bits: u8,
+    all: &[Placed],
+    cut: &[Run],
+) -> Result<Vec<Result<Vec<BlockImage>, BuildRefused>>, AllocError>
+    requires ready { AreReady bits all.now }
+    requires numbered { All IsNumbered cut.now }
+    ensures { IfOk result (λ parts. ArePartsOf (λ images. images.items) bits all.now cut.now parts.items) }
+{
+    let part = |at: usize| -> Result<Vec<BlockImage>, BuildRefused>
+        requires { AreReady bits all.now × All IsNumbered cut.now × (at < length cut.now) }
+        ensures { (run : Run) → IsPartOf (λ images. images.items) bits all.entry.now (slice_index_or cut.entry.now at run) result }
+    { images_of(alloc, bits, all, cut[at]) };
+    map_indices(rt, alloc, cut.len(), &part)
 }

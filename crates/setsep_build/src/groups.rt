@@ -2,7 +2,7 @@ ghost use Rattle.std.specs.Prelude.{ℕ, ◌≡◌, ◌<◌, List, [], IfOk, OnO
 ghost use Rattle.group_search.specs.declared.entry.Entry.{Entry};
 ghost use Rattle.setsep_build.specs.Placing.{AreGathered};
 
-use crate::block::Placed;
+use crate::placed::Placed;
 use block_layout::{BUCKETS, GROUPS};
 use group_search::Entry;
 use std::alloc::{AllocError, Global};

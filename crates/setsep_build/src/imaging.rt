@@ -4,9 +4,9 @@ ghost use Rattle.setsep_build.specs.Placing.{placed_key};
 ghost use Rattle.flow_types.specs.Size.{most_value_bits};
 ghost use Rattle.setsep_build.specs.Block.{IsImageOf, RefusesBlock};
 
-use crate::block::Placed;
 use crate::gathering::groups_of;
 use crate::groups::Groups;
+use crate::placed::Placed;
 use crate::records::records_of;
 use crate::refused::BuildRefused;
 use crate::sizing::bucket_sizes;

@@ -6,16 +6,20 @@
 //! suffices.
 #![tactic(auto)]
 
-mod block;
 mod building;
+mod cutting;
+mod finding;
 mod gathering;
 mod groups;
 mod imaging;
+mod joining;
 mod laws;
+mod placed;
+mod placing;
 mod records;
 mod refused;
+mod running;
 mod sizing;
-mod spreading;
 #[cfg(test)]
 mod tests;
 

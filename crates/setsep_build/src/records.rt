@@ -8,8 +8,8 @@ ghost use Rattle.flow_types.specs.Size.{most_value_bits};
 ghost use Rattle.block_layout.specs.Limits.{most_keys, group_count};
 ghost use Rattle.setsep_build.specs.Block.{needed_below, records_below};
 
-use crate::block::Placed;
 use crate::groups::Groups;
+use crate::placed::Placed;
 use block_layout::{BUCKETS, GROUPS};
 use group_search::{Entry, GroupRecord, canon};
 use std::alloc::{AllocError, Global};

@@ -2,7 +2,7 @@ ghost use Rattle.std.specs.Prelude.{◌≡◌, ◌≤◌, length, sum};
 ghost use Rattle.setsep_build.specs.Placing.{sizes_in};
 ghost use Rattle.block_layout.specs.Limits.{most_keys};
 
-use crate::block::Placed;
+use crate::placed::Placed;
 use block_layout::BUCKETS;
 
 /// How many of a block's flows each bucket has.

@@ -10,14 +10,14 @@ use hash_family::place;
 use std::alloc::{AllocError, Global};
 use std::test::Fail;
 
-/// Flows with ports from 0 up, so many of them, at nodes 0 to `nodes - 1` in turn; those of one block, and where a bucket
-/// is given, those of that bucket alone.
+/// Flows with ports from 0 up, so many of them, at nodes 0 to `nodes - 1` in turn; where blocks are given, of these alone,
+/// and where a bucket is given, of that bucket alone.
 fn flows(
     alloc: Global,
     shape: Shape,
     count: usize,
     nodes: u8,
-    block: Option<u16>,
+    blocks: &[u16],
     bucket: Option<u8>,
 ) -> Result<Vec<Flow>, AllocError>
     requires some { 1 ≤ nodes }
@@ -35,8 +35,8 @@ fn flows(
             protocol: 6,
         };
         let at = place(shape, key);
-        let wanted = is_or_any(block, at.block)
-            && is_or_any(bucket.map(u16::from), u16::from(at.bucket));
+        let wanted = (blocks.is_empty() || blocks.contains(&at.block))
+            && (bucket.is_none() || bucket == Some(at.bucket));
         if wanted && made.len() < count {
             let info = Record { teid: 0, base: 0 };
             let node = (made.len() % nodes as usize) as u8;
@@ -44,14 +44,6 @@ fn flows(
         }
     }
     Ok(made)
-}
-
-/// Whether this is the number that is wanted, if one is.
-fn is_or_any(wanted: Option<u16>, number: u16) -> bool {
-    match wanted {
-        Some(wanted) => wanted == number,
-        None => true,
-    }
 }
 
 /// The node that the images give a key.
@@ -68,19 +60,50 @@ fn gives_each_flow_its_handler(rt: HostRuntime) -> Result<(), Fail> {
     let alloc = rt.alloc();
     the_limits_are();
     let shape = Shape::new(16, 3).ok_or("16 nodes and 3 blocks")?;
-    let flows = flows(alloc, shape, 3_000, 16, None, None)?;
+    let flows = flows(alloc, shape, 3_000, 16, &[], None)?;
     assert_eq!(rt; flows.len(), 3_000);
     let images = build(&rt, alloc, shape, flows.as_slice(), 1)?;
     assert_eq!(rt; images.len(), 3);
     for flow in &flows {
         assert_eq!(rt; routed(images.as_slice(), shape, flow.key), Some(flow.node));
     }
-    let again = build(&rt, alloc, shape, flows.as_slice(), 64)?;
-    for (one, other) in images.iter().zip(again.iter()) {
-        assert_eq!(rt; one.choices(), other.choices());
-        for group in 0..GROUPS {
-            assert_eq!(rt; one.record(group), other.record(group), "group {group}");
+    Ok(())
+}
+
+#[test]
+fn builds_the_same_by_any_number_of_workers(rt: HostRuntime) -> Result<(), Fail> {
+    let alloc = rt.alloc();
+    let shape = Shape::new(16, 7).ok_or("16 nodes and 7 blocks")?;
+    let flows = flows(alloc, shape, 7_000, 16, &[], None)?;
+    assert_eq!(rt; flows.len(), 7_000);
+    let by_one = build(&rt, alloc, shape, flows.as_slice(), 1)?;
+    assert_eq!(rt; by_one.len(), 7);
+    for workers in [2, 3, 7, 64] {
+        let by_more = build(&rt, alloc, shape, flows.as_slice(), workers)?;
+        assert_eq!(rt; by_more.len(), 7, "{workers} workers");
+        for (one, more) in by_one.iter().zip(by_more.iter()) {
+            assert_eq!(rt; one.choices(), more.choices(), "{workers} workers");
+            for group in 0..GROUPS {
+                assert_eq!(rt; one.record(group), more.record(group), "{workers} workers");
+            }
         }
+    }
+    Ok(())
+}
+
+#[test]
+fn names_the_first_block_of_those_that_are_refused(rt: HostRuntime) -> Result<(), Fail> {
+    let alloc = rt.alloc();
+    let shape = Shape::new(16, 7).ok_or("16 nodes and 7 blocks")?;
+    // By three workers the blocks 4 and 6 are in the second and the third run.
+    let two_full = flows(alloc, shape, 3_400, 16, &[4, 6], None)?;
+    assert_eq!(rt; two_full.len(), 3_400);
+    for workers in [1, 2, 3, 64] {
+        assert_eq!(rt;
+            build(&rt, alloc, shape, two_full.as_slice(), workers).err(),
+            Some(BuildRefused::BlockFull { block: 4 }),
+            "{workers} workers"
+        );
     }
     Ok(())
 }
@@ -89,7 +112,7 @@ fn gives_each_flow_its_handler(rt: HostRuntime) -> Result<(), Fail> {
 fn takes_1536_flows_of_a_block_and_no_more(rt: HostRuntime) -> Result<(), Fail> {
     let alloc = rt.alloc();
     let shape = Shape::new(4, 1).ok_or("4 nodes and a block")?;
-    let most = flows(alloc, shape, 1_536, 1, None, None)?;
+    let most = flows(alloc, shape, 1_536, 1, &[], None)?;
     assert_eq!(rt; most.len(), 1_536);
     let images = build(&rt, alloc, shape, most.as_slice(), 7)?;
     assert_eq!(rt; images.len(), 1);
@@ -106,7 +129,7 @@ fn takes_1536_flows_of_a_block_and_no_more(rt: HostRuntime) -> Result<(), Fail> 
             GroupRecord::Fallback(_) => return Err("a group at one node needs no rows".into()),
         }
     }
-    let more = flows(alloc, shape, 1_537, 1, None, None)?;
+    let more = flows(alloc, shape, 1_537, 1, &[], None)?;
     assert_eq!(rt; more.len(), 1_537);
     assert_eq!(rt;
         build(&rt, alloc, shape, more.as_slice(), 1).err(),
@@ -119,7 +142,7 @@ fn takes_1536_flows_of_a_block_and_no_more(rt: HostRuntime) -> Result<(), Fail> 
 fn takes_64_rows_of_a_block_and_no_more(rt: HostRuntime) -> Result<(), Fail> {
     let alloc = rt.alloc();
     let shape = Shape::new(2, 1).ok_or("2 nodes and a block")?;
-    let most = flows(alloc, shape, 64, 2, None, Some(9))?;
+    let most = flows(alloc, shape, 64, 2, &[], Some(9))?;
     assert_eq!(rt; most.len(), 64);
     let images = build(&rt, alloc, shape, most.as_slice(), 1)?;
     assert_eq!(rt; images.len(), 1);
@@ -128,7 +151,7 @@ fn takes_64_rows_of_a_block_and_no_more(rt: HostRuntime) -> Result<(), Fail> {
     for flow in &most {
         assert_eq!(rt; routed(images.as_slice(), shape, flow.key), Some(flow.node));
     }
-    let more = flows(alloc, shape, 65, 2, None, Some(9))?;
+    let more = flows(alloc, shape, 65, 2, &[], Some(9))?;
     assert_eq!(rt; more.len(), 65);
     assert_eq!(rt;
         build(&rt, alloc, shape, more.as_slice(), 1).err(),
@@ -145,13 +168,13 @@ fn names_the_block_that_is_past_a_limit(rt: HostRuntime) -> Result<(), Fail> {
     let alloc = rt.alloc();
     let shape = Shape::new(16, 3).ok_or("16 nodes and 3 blocks")?;
     for block in [0, 1, 2] {
-        let many = flows(alloc, shape, 1_537, 16, Some(block), None)?;
+        let many = flows(alloc, shape, 1_537, 16, &[block], None)?;
         assert_eq!(rt; many.len(), 1_537, "block {block}");
         assert_eq!(rt;
             build(&rt, alloc, shape, many.as_slice(), 1).err(),
             Some(BuildRefused::BlockFull { block })
         );
-        let of_a_bucket = flows(alloc, shape, 65, 16, Some(block), Some(9))?;
+        let of_a_bucket = flows(alloc, shape, 65, 16, &[block], Some(9))?;
         assert_eq!(rt; of_a_bucket.len(), 65, "block {block}");
         assert_eq!(rt;
             build(&rt, alloc, shape, of_a_bucket.as_slice(), 1).err(),

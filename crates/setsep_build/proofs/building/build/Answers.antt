@@ -1,30 +1,34 @@
-use Rattle.std.proofs.Common.{◌+◌, subst, sym, arith}
-use Rattle.std.proofs.lemmas.Result.{err_from_is_err_and}
-use Rattle.setsep_build.proofs.SoFar.{IsSoFar, none_so_far, all_so_far, block_apart, block_refused, block_built}
+use Rattle.std.proofs.Common.{subst, sym, arith}
+use Rattle.std.specs.Prelude.{All}
+use Rattle.setsep_build.specs.Cut.{Cover}
+use Rattle.setsep_build.specs.Parts.{AreReady, IsNumbered}
+use Rattle.setsep_build.proofs.CutFacts.{cover_within}
+use Rattle.setsep_build.proofs.WholeBuild.{all_apart, whole_built, whole_refused}
 use Rattle.setsep_build.proofs.building.build.Goals as goal
 
-pub images-init : goal.images-init
-images-init g c = none_so_far c.args.shape c.args.flows.now c.in_ok-images.images.items c.in_ok-images.ensures.items
+pub all_parts-requires-clause-ready : goal.all_parts-requires-clause-ready
+all_parts-requires-clause-ready g c κs within =
+    subst (AreReady c.value_bits.result) (sym c.deref.ensures.value)
+    (record {
+      enough_bits = c.value_bits.ensures.fewest.at_least_one;
+      few_bits = c.value_bits.ensures.most;
+      apart = all_apart c.args.shape c.args.flows.now c.in_ok-all.all.items c.in_ok-all.ensures c.requires.distinct;
+      in_order = c.in_ok-all.ensures.in_order;
+    })
 
-pub image_of-requires-clause-apart : goal.image_of-requires-clause-apart
-image_of-requires-clause-apart g c =
-    block_apart c.args.shape c.args.flows.now c.value_bits-bits.result c.images.block c.in_ok-blocks.blocks.items c.index.result.now c.as_slice-placed.result.now
-    c.in_ok-blocks.ensures (omega arith) c.value_bits-bits.ensures.value c.index.ensures c.as_slice-placed.ensures c.requires.distinct
-
-pub returns-in_err-image_of-clause-refused : goal.returns-in_err-image_of-clause-refused
-returns-in_err-image_of-clause-refused g c =
-    let p = err_from_is_err_and c.from_residual-in_err-image_of.result c.from_residual-in_err-image_of.ensures.1 in
-    rw (p.1, p.2)
-    (block_refused c.args.shape c.args.flows.now c.value_bits-bits.result c.images.block c.in_ok-blocks.blocks.items c.index.result.now c.as_slice-placed.result.now
-    c.in_ok-blocks.ensures (omega arith) c.value_bits-bits.ensures.value c.index.ensures c.as_slice-placed.ensures
-    c.in_err-image_of.field-0.0 c.images.invariant.within c.in_err-image_of.ensures.refused)
-
-pub images-preserved : goal.images-preserved
-images-preserved g c =
-    subst (IsSoFar c.args.shape c.args.flows.now (c.images.block + 1)) (sym c.in_ok-push.ensures.items)
-    (block_built c.args.shape c.args.flows.now c.value_bits-bits.result c.images.block c.in_ok-blocks.blocks.items c.index.result.now c.as_slice-placed.result.now
-    c.in_ok-blocks.ensures (omega arith) c.value_bits-bits.ensures.value c.index.ensures c.as_slice-placed.ensures
-    c.in_ok-image_of.field-0 c.images.images.items c.images.invariant c.in_ok-image_of.ensures.image)
+pub all_parts-requires-clause-numbered : goal.all_parts-requires-clause-numbered
+all_parts-requires-clause-numbered g c κs within =
+    subst (All IsNumbered) (sym c.deref-2.ensures.value)
+    (λ k d low. let inside = cover_within 0 c.blocks-3.result c.in_ok-cut.cut.items c.in_ok-cut.ensures.covers k d low in omega arith)
 
 pub returns-clause-built : goal.returns-clause-built
-returns-clause-built g c = all_so_far c.args.shape c.args.flows.now c.images.block c.images.images.items c.images.invariant (omega arith)
+returns-clause-built g c =
+    whole_built c.args.shape c.args.flows.now c.in_ok-all.all.items c.in_ok-all.ensures c.requires.distinct (λ part. part.items) c.in_ok-cut.cut.items c.in_ok-parts.parts.items
+    (subst (λ blocks. Cover 0 blocks c.in_ok-cut.cut.items) c.blocks-3.ensures.value c.in_ok-cut.ensures.covers)
+    (rw (c.value_bits.ensures.value, c.deref.ensures.value, c.deref-2.ensures.value) at c.in_ok-parts.ensures) c.join_parts.result c.join_parts.ensures.images
+
+pub returns-clause-refused : goal.returns-clause-refused
+returns-clause-refused g c =
+    whole_refused c.args.shape c.args.flows.now c.in_ok-all.all.items c.in_ok-all.ensures c.requires.distinct (λ part. part.items) c.in_ok-cut.cut.items c.in_ok-parts.parts.items
+    (subst (λ blocks. Cover 0 blocks c.in_ok-cut.cut.items) c.blocks-3.ensures.value c.in_ok-cut.ensures.covers)
+    (rw (c.value_bits.ensures.value, c.deref.ensures.value, c.deref-2.ensures.value) at c.in_ok-parts.ensures) c.join_parts.result c.join_parts.ensures.refused

@@ -1,7 +1,7 @@
 use Rattle.std.proofs.Common.{◌≡◌, ◌∙◌, ◌<◌, ◌++◌, ◌∷◌, [], List, ℕ, length, get_or, ap, arith, sym, refl}
 use Rattle.std.proofs.lemmas.List.{get_or_default, length-set}
 use Rattle.group_search.specs.declared.entry.Entry.{Entry}
-use Rattle.setsep_build.specs.declared.block.Placed.{Placed}
+use Rattle.setsep_build.specs.declared.placed.Placed.{Placed}
 use Rattle.setsep_build.proofs.MoreGathered.{nobody, gathered_none, known_below, one_gathered}
 use Rattle.setsep_build.proofs.groups.Groups.gather.Goals as goal
 
