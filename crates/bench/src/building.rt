@@ -1,4 +1,4 @@
-ghost use Rattle.std.specs.Prelude.{◌≡◌, ◌≤◌, All, IfOk, length};
+ghost use Rattle.std.specs.Prelude.{◌≡◌, All, IfOk, length};
 ghost use Rattle.flow_types.specs.declared.record.Flow.{Flow};
 ghost use Rattle.flow_types.specs.Map.{AreDistinct};
 ghost use Rattle.group_search.specs.Owned.{IsOwned};
@@ -11,12 +11,12 @@ use hash_family::place;
 use replica_shard::PlainShard;
 use std::alloc::{AllocError, Global};
 
-/// So many flows with addresses from 0 up, at the first four nodes, drawn evenly.
+/// So many flows with addresses from 0 up, their nodes drawn evenly.
 pub fn flows(alloc: Global, shape: Shape, count: u32) -> Result<Vec<Flow>, AllocError>
-    requires { 4 ≤ shape.nodes }
     ensures distinct { IfOk result (λ made. AreDistinct made.items) }
     ensures handled { IfOk result (λ made. AreHandled shape.nodes made.items) }
 {
+    let nodes = u64::from(shape.nodes());
     let mut made = Vec::with_capacity(alloc, count as usize)?;
     'flows: for source in 0..count {
         let key = FlowKey {
@@ -26,7 +26,7 @@ pub fn flows(alloc: Global, shape: Shape, count: u32) -> Result<Vec<Flow>, Alloc
             destination_port: 443,
             protocol: 6,
         };
-        let node = (draw(2, u64::from(source)) & 3) as u8;
+        let node = (draw(2, u64::from(source)) % nodes) as u8;
         let info = Record { teid: 0, base: 0 };
         made.push(Flow { key, node, info })?;
     }

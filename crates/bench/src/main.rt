@@ -2,7 +2,8 @@
 //!
 //! Without words it prints a checksum of each work, the same on every machine. With the word `time` it also says how
 //! long each took. With the word `cells` it measures groups rewritten in place, by one thread and by several. With the
-//! word `rows` it reads standard input and counts its rows, and does nothing else.
+//! word `workers` it measures builds by one worker and by several. With the word `rows` it reads standard input and
+//! counts its rows, and does nothing else.
 #![tactic(auto)]
 
 mod building;
@@ -13,6 +14,7 @@ mod reading;
 mod searching;
 mod timing;
 mod work;
+mod workers;
 
 use std::thread::join;
 use std::{env, io};
@@ -65,8 +67,9 @@ fn main(rt: HostRuntime) -> io::Result<()> {
                 cells::tell(&rt, "cells_look_of_three_beside_a_writer", b)?;
                 cells::tell(&rt, "cells_look_of_three_beside_a_writer", c)
             }
+            "workers" => workers::figures(&rt),
             "rows" => reading::count(&rt),
-            _ => eprintln!(&rt; "bench: the words are none, `time`, `cells` or `rows`"),
+            _ => eprintln!(&rt; "bench: the words are none, `time`, `cells`, `workers` or `rows`"),
         },
     }
 }

@@ -22,7 +22,7 @@ const GROUPS: u64 = 1_000;
 const FLOWS: u32 = 262_144;
 
 /// Prints a line for each work: its name, what was done how often, the nanoseconds, and the checksum.
-pub fn figures(rt: &(impl Print + AllocGlobal + Clock + Threads)) -> io::Result<()> {
+pub fn figures(rt: &(impl Print + AllocGlobal + Clock + Threads + Sync)) -> io::Result<()> {
     let start = Instant::now(rt)?;
     let sum = work::places(1, KEYS);
     line(rt, "place", KEYS, start.elapsed(rt)?, sum)?;
@@ -56,7 +56,7 @@ fn searches(rt: &(impl Print + AllocGlobal + Clock), keys: u64, groups: u64) -> 
 }
 
 /// Builds a table and looks each key up in its images.
-fn table(rt: &(impl Print + AllocGlobal + Clock + Threads)) -> io::Result<()> {
+fn table(rt: &(impl Print + AllocGlobal + Clock + Threads + Sync)) -> io::Result<()> {
     let Some(shape) = Shape::new(4, 256) else {
         return Ok(());
     };

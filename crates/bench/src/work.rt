@@ -33,7 +33,7 @@ pub fn pairs(seed: u64, keys: u64) -> u64 {
 }
 
 /// Prints a checksum of each work.
-pub fn checksums(rt: &(impl Print + AllocGlobal + Threads)) -> io::Result<()> {
+pub fn checksums(rt: &(impl Print + AllocGlobal + Threads + Sync)) -> io::Result<()> {
     println!(rt; "places {}", places(1, 1000))?;
     println!(rt; "pairs {}", pairs(1, 1000))?;
     println!(rt; "choices {}", choosing::choices(1, 20))?;
@@ -50,7 +50,7 @@ pub fn checksums(rt: &(impl Print + AllocGlobal + Threads)) -> io::Result<()> {
 }
 
 /// Prints how many of 2,000 flows their table sends to their nodes.
-fn looks(rt: &(impl Print + AllocGlobal + Threads)) -> io::Result<()> {
+fn looks(rt: &(impl Print + AllocGlobal + Threads + Sync)) -> io::Result<()> {
     let Some(shape) = Shape::new(4, 4) else {
         return Ok(());
     };

@@ -25,7 +25,7 @@ use turn_sender::Sender;
 ///
 /// The table is built by so many workers, 1..=64, which change nothing in it. The first block that is past a limit is
 /// the fault.
-pub fn open<R: Threads>(
+pub fn open<R: Threads + Sync>(
     rt: &R,
     alloc: Global,
     opening: &Opening,

@@ -20,7 +20,7 @@ use std::thread::Threads;
 /// reply, and the report prints them. The fault is the first row that breaks a rule, or else the first block that is past a
 /// limit.
 #[tactic(auto, unfolding(crate::specs::Outcome::outcome))]
-pub fn replay<R: Threads>(
+pub fn replay<R: Threads + Sync>(
     rt: &R,
     alloc: Global,
     bytes: &[u8],

@@ -82,7 +82,7 @@ fn unknown(node: u8, seen: u32, fib: u32) -> Reply {
     Reply::Unknown { node, seen, fib }
 }
 
-fn opened(rt: &impl Threads, alloc: Global, rows: &str) -> Result<Cluster, Fail> {
+fn opened(rt: &(impl Threads + Sync), alloc: Global, rows: &str) -> Result<Cluster, Fail> {
     let bytes = rows.as_bytes();
     if bytes.len() > MOST_OCTETS {
         return Err("too many octets".into());

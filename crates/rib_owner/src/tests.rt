@@ -26,7 +26,7 @@ fn shape() -> Result<Shape, Fail> {
 }
 
 /// The owner of the one block of four nodes, without flows.
-fn opened(rt: &impl Threads, alloc: Global) -> Result<Owner, Fail> {
+fn opened(rt: &(impl Threads + Sync), alloc: Global) -> Result<Owner, Fail> {
     let four_nodes = shape()?;
     let images = build(rt, alloc, four_nodes, &[], 1)?;
     Ok(Owner::open(alloc, four_nodes, 0, &[], images.as_slice())?)

@@ -29,7 +29,7 @@ const WORKERS: u8 = 4;
 /// Does what the words ask for, from the whole input to the whole output, and answers the status.
 ///
 /// The words are those after the program's name. Nothing is written before the whole output is made.
-pub fn run<S: Source, K: Sink, G: Gate + Sync, R: Threads + Wait>(
+pub fn run<S: Source, K: Sink, G: Gate + Sync, R: Threads + Wait + Sync>(
     rt: &R,
     alloc: Global,
     words: &[String],
@@ -122,7 +122,7 @@ fn refused(line: String) -> Output
 
 /// Makes what is printed for an input: its report, or the line of its first bad row or of the first block past a
 /// limit.
-fn make_output<R: Threads>(rt: &R, alloc: Global, bytes: &[u8]) -> Result<Output, OutOfMemory>
+fn make_output<R: Threads + Sync>(rt: &R, alloc: Global, bytes: &[u8]) -> Result<Output, OutOfMemory>
     requires { length bytes.now ≤ most_octets }
     ensures text { IfOk result (λ made. made.text.items ≡ printed (outcome bytes.now)) }
     ensures status { IfOk result (λ made. made.status ≡ outcome_status (outcome bytes.now)) }

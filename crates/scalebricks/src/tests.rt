@@ -168,7 +168,7 @@ fn one_octet_over_the_limit_is_too_large(rt: HostRuntime) -> Result<(), Fail> {
 }
 
 /// Over a source and a sink that never fail, no fault is told.
-fn run_honestly<R: Threads + Wait>(
+fn run_honestly<R: Threads + Wait + Sync>(
     rt: &R,
     alloc: Global,
     words: &[String],

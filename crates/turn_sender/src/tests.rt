@@ -43,7 +43,7 @@ fn shape() -> Result<Shape, Fail> {
 }
 
 /// The sender of the one block of four nodes, without flows.
-fn opened(rt: &impl Threads, alloc: Global) -> Result<Sender, Fail> {
+fn opened(rt: &(impl Threads + Sync), alloc: Global) -> Result<Sender, Fail> {
     let four_nodes = shape()?;
     let images = build(rt, alloc, four_nodes, &[], 1)?;
     Ok(Sender::open(alloc, four_nodes, 0, &[], images.as_slice())?)
