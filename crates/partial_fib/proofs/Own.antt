@@ -1,12 +1,11 @@
 -- A FIB that is opened with the flows of its own alone.
-use Rattle.std.proofs.Common.{ℕ, ◌≡◌, ◌≢◌, ◌∙◌, Bool, true, false, cond, List, [], ◌∷◌, Option, Some, ap, sym, refl}
+use Rattle.std.proofs.Common.{ℕ, ◌≡◌, ◌≢◌, ◌∙◌, Bool, true, false, cond, List, [], ◌∷◌, Some, ap, sym, refl}
 use Rattle.std.specs.Prelude.{filter, find, option_map}
 use Rattle.std.specs.List.{All}
 use Rattle.std.proofs.lemmas.Bool.{cond-true, cond-false}
 use Rattle.std.proofs.lemmas.List.Elements.{All-filter}
 use Rattle.std.proofs.lemmas.List.Kept.{AllPairs-filter}
 use Rattle.flow_types.specs.declared.record.Flow.{Flow}
-use Rattle.flow_types.specs.declared.record.Record.{Record}
 use Rattle.flow_types.specs.Key.{number}
 use Rattle.flow_types.specs.Map.{AreDistinct}
 use Rattle.flow_types.specs.Size.{Size}
@@ -34,13 +33,13 @@ module _ (size : Size) (node owner : ℕ) where
           ∙ rest
           ∙ sym (cond-false _ (Some flow) (find (counts_at own n) flows) left_out)
 
-  module _ (flows : List Flow) (distinct : AreDistinct flows) (fit : All (λ (flow : Flow). IsKeyValue flow.key) flows) where
-    pub own_distinct : AreDistinct (filter own flows)
-    own_distinct = AllPairs-filter (λ (a : Flow) (b : Flow). number a.key ≢ number b.key) own flows distinct
+  pub own_distinct : (flows : List Flow) → AreDistinct flows → AreDistinct (filter own flows)
+  own_distinct flows distinct = AllPairs-filter (λ (a : Flow) (b : Flow). number a.key ≢ number b.key) own flows distinct
 
+  module _ (flows : List Flow) (distinct : AreDistinct flows) (fit : All (λ (flow : Flow). IsKeyValue flow.key) flows) where
     same_records : (n : ℕ) → record_after size node owner (filter own flows) [] n ≡ record_after size node owner flows [] n
     same_records n =
-        sym (records_of_opening size node owner (filter own flows) own_distinct (All-filter own (λ (flow : Flow). IsKeyValue flow.key) flows fit) n)
+        sym (records_of_opening size node owner (filter own flows) (own_distinct flows distinct) (All-filter own (λ (flow : Flow). IsKeyValue flow.key) flows fit) n)
         ∙ ap (option_map (λ (flow : Flow). flow.info)) (found_again n flows)
         ∙ records_of_opening size node owner flows distinct fit n
 
