@@ -5,12 +5,21 @@ import subprocess
 
 ROOT = pathlib.Path(__file__).resolve().parent.parent
 PROGRAM = ROOT / "crates/scalebricks/out/scalebricks"
+# For the processors that the proved program is built for.
+RUSTC = ["rustc", "--edition", "2021", "-O", "-C", "target-cpu=x86-64-v2"]
 
 
 def build():
     """Proves and builds the program where it is missing or stale."""
     rows = b"cluster,2,1\nbegin\nend\n"
     subprocess.run([ROOT / "scalebricks", "replay"], input=rows, stdout=subprocess.DEVNULL, check=True)
+
+
+def build_native(folder):
+    """Builds the plain native program in the folder, and gives its path."""
+    native = folder / "native"
+    subprocess.run([*RUSTC, ROOT / "bench/native.rs", "-o", native], check=True)
+    return native
 
 
 def rows_of(*words):

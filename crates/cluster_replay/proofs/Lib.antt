@@ -15,3 +15,4 @@ pub mod Syncing
 pub mod Replied
 pub mod Sized
 pub mod Opened
+pub mod Dealt

@@ -4,3 +4,4 @@ pub mod FirstBad
 pub mod Headline
 pub mod Laws
 pub mod Cluster
+pub mod Dealing

@@ -12,6 +12,7 @@
 
 mod answering;
 mod cluster;
+mod dealing;
 mod fault;
 mod law;
 mod node;

@@ -11,6 +11,7 @@ ghost use Rattle.replica_shard.specs.Shard.{free_rows, shard_after};
 ghost use Rattle.replica_shard.specs.Store.{shard_state_of};
 ghost use Rattle.cluster_replay.specs.Cluster.{AreOpened, IsNodeOf, after_fib, after_table, fib_in, node_state_of, shard_in, taking_reply};
 
+use crate::dealing::deal;
 use delta_codec::{FibMessage, TableMessage};
 use flow_types::{Flow, Shape};
 use group_search::BlockImage;
@@ -130,9 +131,11 @@ fn fibs(
     requires distinct { AreDistinct flows.now }
     ensures { IfOk result (λ fibs. AreOpened owners (λ owner. fib_after shape number owner flows.now []) (map state_of fibs.items)) }
 {
+    let dealt = deal(alloc, shape, number, flows)?;
     let mut fibs = Vec::new(alloc);
     'owners: for owner in 0..owners {
-        fibs.push(Fib::open(alloc, shape, number, owner, flows)?)?;
+        let own = dealt[usize::from(owner)].as_slice();
+        fibs.push(Fib::open(alloc, shape, number, owner, own)?)?;
     }
     Ok(fibs)
 }

@@ -3,3 +3,4 @@ pub mod Places
 pub mod TurnFacts
 pub mod Handled
 pub mod MapAnswers
+pub mod Own
