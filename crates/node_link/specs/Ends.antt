@@ -19,14 +19,10 @@ pub record End : Type 0 where
   pub size : Size
   pub messages : List Message
 
--- the end after one more message
-abbrev pub with_message : End → Message → End
-with_message end message = record end { messages = end.messages ++ message ∷ [] }
-
 -- what was taken fits the shape, and is the message that the end took last; or nothing was taken
 abbrev pub TakesNext : (before : End) → Taken → (after : End) → Type 0
-TakesNext before (Item message) after = Fits before.size message × (after ≡ with_message before message)
-TakesNext before Empty after = after ≡ before
+TakesNext before (Item message) after = Fits before.size message × (after.messages ≡ before.messages ++ message ∷ [])
+TakesNext before Empty after = after.messages ≡ before.messages
 
 -- a pass at a queue of letters
 abbrev pub Port : Type 0

@@ -19,6 +19,8 @@ use std::sync::Wait;
 pub fn receive<R: Wait>(rt: &R, end: &mut TakeEnd, shape: Shape) -> Result<Taken, OutOfMemory>
     requires shape { end.old.size ≡ shape }
     ensures no_memory { IsOk result }
+    ensures line { end.new.line ≡ end.old.line }
+    ensures size { end.new.size ≡ end.old.size }
     ensures took { IfOk result (λ taken. TakesNext end.old taken end.new) }
 {
     let Some(port) = &mut end.port else {

@@ -1,9 +1,9 @@
 //! How a message is sent.
 
-ghost use Rattle.std.specs.Prelude.{◌≡◌, MatchResult, OnErr, OnOk};
+ghost use Rattle.std.specs.Prelude.{◌≡◌, ◌++◌, ◌∷◌, [], OnErr, OnOk};
 ghost use Rattle.delta_codec.specs.declared.message.Message.{Message};
 ghost use Rattle.delta_codec.specs.Fits.{Fits};
-ghost use Rattle.node_link.specs.Ends.{IsPort, with_message};
+ghost use Rattle.node_link.specs.Ends.{IsPort};
 ghost use Rattle.node_link.specs.Letter.{IsLetter};
 ghost use Rattle.node_link.specs.Moves.{HasSent};
 ghost use Rattle.node_link.specs.Rule.{sender_log};
@@ -28,7 +28,9 @@ pub fn send<R: Wait>(
 ) -> Result<(), OutOfMemory>
     requires shape { end.old.size ≡ shape }
     requires fits { Fits shape message.now }
-    ensures sent { OnOk result (end.new ≡ with_message end.old message.now) }
+    ensures line { end.new.line ≡ end.old.line }
+    ensures size { end.new.size ≡ end.old.size }
+    ensures sent { OnOk result (end.new.messages ≡ end.old.messages ++ message.now ∷ []) }
     ensures refused { OnErr result (end.new ≡ end.old) }
 {
     let letter = write(end.alloc, shape, message)?;

@@ -29,6 +29,8 @@ pub fn settle<R: Wait>(
     requires taken_shape { taker.old.size ≡ shape }
     ensures no_memory { IsOk result }
     ensures sent { sender.new ≡ sender.old }
+    ensures line { taker.new.line ≡ taker.old.line }
+    ensures size { taker.new.size ≡ taker.old.size }
     ensures took { IfOk result (λ taken. TakesNext taker.old taken taker.new) }
     ensures in_order { IsBeginning taker.new.messages sender.new.messages }
     ensures all { result ≡ Ok Empty → taker.new.messages ≡ sender.new.messages }
