@@ -1,0 +1,4 @@
+pub mod Letter
+pub mod Rule
+pub mod Moves
+pub mod Ends

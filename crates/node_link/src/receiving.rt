@@ -1,0 +1,43 @@
+//! How a message is taken.
+
+ghost use Rattle.std.specs.Prelude.{◌≡◌, IfOk, IsOk, true};
+ghost use Rattle.node_link.specs.Ends.{IsPort, TakesNext};
+ghost use Rattle.node_link.specs.Moves.{Pops};
+ghost use Rattle.node_link.specs.Rule.{taker_log};
+
+use crate::ends::TakeEnd;
+use crate::letter::read;
+use crate::rule::{Port, Queue, Takes};
+use crate::taken::Taken;
+use flow_types::Shape;
+use out_of_memory::OutOfMemory;
+use std::sync::Wait;
+
+/// Takes the next message, by one pop at most. The shape is the link's.
+///
+/// It answers `Empty` only where the queue was empty at a step of this call. It takes no memory.
+pub fn receive<R: Wait>(rt: &R, end: &mut TakeEnd, shape: Shape) -> Result<Taken, OutOfMemory>
+    requires shape { end.old.size ≡ shape }
+    ensures no_memory { IsOk result }
+    ensures line { end.new.line ≡ end.old.line }
+    ensures size { end.new.size ≡ end.old.size }
+    ensures took { IfOk result (λ taken. TakesNext end.old taken end.new) }
+{
+    let Some(port) = &mut end.port else {
+        unreachable!()
+    };
+    Ok(pop(rt, &end.line.queue, port, shape))
+}
+
+/// One pop, by a pass that may take.
+pub(crate) fn pop<R: Wait>(rt: &R, queue: &Queue, port: &mut Port, shape: Shape) -> Taken
+    requires shape { port.old.me.view.client.shape ≡ shape }
+    requires port { IsPort queue.now port.old (record port.old.me.view.client { takes = true }) }
+    ensures port { IsPort queue.now port.new (record port.old.me.view.client { taken = port.new.me.view.client.taken }) }
+    ensures popped { Pops port.old.me.view.client result port.new.me.view.client }
+{
+    match queue.pop_as::<Takes, R>(rt, port) {
+        Some(letter) => Taken::Item(read(shape, &letter)),
+        None => Taken::Empty,
+    }
+}
