@@ -17,12 +17,12 @@ use Rattle.cluster_replay.specs.declared.fault.InputFault.{InputFault}
 use Rattle.cluster_replay.specs.declared.fault.InputFault.TheVariants.{Bad, BlockFull, RowsFull}
 use Rattle.cluster_replay.specs.FirstBad.{AreReadable, IsFirstBadRow, IsPast, IsReportOf, OutcomeLaw}
 use Rattle.cluster_replay.specs.Limits.{fault_of_limit}
-use Rattle.cluster_replay.specs.Outcome.{outcome, outcome_of_build, outcome_of_rows, replay_report}
+use Rattle.cluster_replay.specs.Outcome.{outcome_by, outcome_of_build, outcome_of_rows, replay_report}
 
 module _ (all : List Row) where
   -- what all rows come to
   comes_to : Result (List ℕ) InputFault
-  comes_to = outcome_of_rows all (opening_of all)
+  comes_to = outcome_of_rows replay_report all (opening_of all)
 
   law : OpeningLaw all
   law = opening-law all
@@ -46,9 +46,9 @@ module _ (all : List Row) where
   read = by (opening_of all) refl
     where
       with_past : (opening : Opening) (script : List Event) → AreReadable Replay all opening script
-          → comes_to ≡ outcome_of_build opening script (past_limit opening.shape opening.flows) → (past : Option PastLimit) → past_limit opening.shape opening.flows ≡ past → Read
-      with_past opening script readable is None within = Text opening script readable within (is ∙ ap (outcome_of_build opening script) within)
-      with_past opening script readable is (Some past) first = Past opening script past readable first (is ∙ ap (outcome_of_build opening script) first)
+          → comes_to ≡ outcome_of_build replay_report opening script (past_limit opening.shape opening.flows) → (past : Option PastLimit) → past_limit opening.shape opening.flows ≡ past → Read
+      with_past opening script readable is None within = Text opening script readable within (is ∙ ap (outcome_of_build replay_report opening script) within)
+      with_past opening script readable is (Some past) first = Past opening script past readable first (is ∙ ap (outcome_of_build replay_report opening script) first)
 
       with_script : (opening : Opening) → opening_of all ≡ Ok opening → (o : Result (List Event) BadRow) → script_in opening ≡ o → Read
       with_script opening opens (Err bad) says =
@@ -116,7 +116,7 @@ module _ (all : List Row) where
       rw (is, says) refl
 
 pub outcome_law : (bytes : List ℕ) → OutcomeLaw bytes
-unfolding outcome comes_to
+unfolding outcome_by comes_to
 outcome_law bytes =
     let all = rows bytes in
     let seen = read all in

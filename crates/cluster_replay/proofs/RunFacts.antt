@@ -1,9 +1,11 @@
 -- What an input comes to is a run's.
-use Rattle.std.proofs.Common.{◌≡◌, ◌∙◌, ◌&&◌, ℕ, Bool, true, false, List, length, get_or, drop, None, Result, Ok, Err, refl, sym, ap, subst}
-use Rattle.std.specs.Prelude.{◌==◌, codes, if◌then◌else◌, nat_le}
+use Rattle.std.proofs.Common.{◌≡◌, ◌∙◌, ◌+◌, ◌-◌, ◌&&◌, ℕ, Bool, true, false, List, [], ◌∷◌, length, get_or, drop, Option, None, Some, Result, Ok, Err, refl, sym, ap, subst, arith, length-append, length-drop}
+use Rattle.std.proofs.lemmas.List.{length-map}
+use Rattle.std.specs.Prelude.{◌==◌, IfSome, codes, if◌then◌else◌, nat_le}
 use Rattle.std.proofs.lemmas.Bool.{and_parts, leb-true}
 use Rattle.csv_rows.specs.Rows.{Row, rows, field_at}
 use Rattle.flow_types.specs.Size.{Size, IsShape, fewest_blocks, fewest_nodes, most_blocks, most_nodes}
+use Rattle.flow_types.specs.declared.why.BadRow.{BadRow}
 use Rattle.flow_types.specs.declared.why.Why.{Why}
 use Rattle.flow_types.specs.declared.why.Why.TheVariants as why
 use Rattle.flow_reader.specs.Fields.{and_then, is_kind, number_field}
@@ -11,12 +13,11 @@ use Rattle.flow_reader.specs.FirstBad.{IsOpening}
 use Rattle.flow_reader.specs.Opening.{opening_of, shape_of, shape_with}
 use Rattle.flow_reader.specs.declared.opening.Opening.{Opening}
 use Rattle.flow_reader.proofs.FlowFacts.{each-fits, opening-fits}
-use Rattle.group_search.specs.Build.{past_limit}
+use Rattle.group_search.specs.Build.{PastLimit, past_limit}
 use Rattle.packet_reader.specs.declared.event.Event.{Event}
 use Rattle.packet_reader.specs.declared.mode.Mode.TheVariants.{Replay}
 use Rattle.packet_reader.specs.FirstBad.{IsScript}
-use Rattle.packet_reader.specs.Script.{script_of}
-use Rattle.replay_model.specs.declared.reply.Reply.{Reply}
+use Rattle.packet_reader.specs.Script.{script_of, script_row}
 use Rattle.replay_model.specs.Allowed.{Allowed}
 use Rattle.replay_model.specs.Laws.{AreFormed, CanBeOpened}
 use Rattle.replay_model.specs.Replaying.{replayed_with_updates}
@@ -24,12 +25,15 @@ use Rattle.replay_model.proofs.NeverBack.{no_lane_goes_back}
 use Rattle.replay_model.proofs.OneVersion.{one_version_tells}
 use Rattle.replay_model.proofs.Records.{replays_go_by_records}
 use Rattle.replay_model.proofs.Replays.{replays_are_allowed}
-use Rattle.run_report.specs.Report.{AreOfTheirEvents, report}
+use Rattle.run_report.specs.Report.{AreOfTheirEvents}
 use Rattle.run_report.proofs.EventKinds.{allowed_are_of_their_events}
+use Rattle.cluster_replay.specs.declared.fault.InputFault.{InputFault}
+use Rattle.cluster_replay.specs.declared.fault.InputFault.TheVariants.{Bad}
 use Rattle.cluster_replay.specs.FirstBad.{AreReadable, IsReportOf}
 use Rattle.cluster_replay.specs.Headline.{IsRunOf}
 use Rattle.cluster_replay.specs.Laws.{CanBeReplayed, ComesToRun}
-use Rattle.cluster_replay.specs.Outcome.{opened, outcome}
+use Rattle.cluster_replay.specs.Limits.{fault_of_limit}
+use Rattle.cluster_replay.specs.Outcome.{Replies, opened, outcome_by, outcome_of_build, outcome_of_rows, outcome_of_script, replay_replies}
 use Rattle.cluster_replay.proofs.FirstBadFacts.{outcome_law}
 use Rattle.cluster_replay.proofs.KeyRanges.{key_value, script-formed}
 
@@ -117,17 +121,72 @@ run_of_report bytes text r =
 pub replay_runs : (bytes : List ℕ) → ComesToRun bytes
 replay_runs bytes text gives = run_of_report bytes text (((outcome_law bytes).printed text).0 gives)
 
--- what was read, built, replied and printed is what the input comes to
-pub comes_to : (bytes text : List ℕ) (all left : List Row) (opening : Opening) (script : List Event) (replies : List Reply) → all ≡ rows bytes → opening_of all ≡ Ok opening
-    → left ≡ drop opening.begin_row all → script_of Replay opening.shape opening.begin_row left ≡ Ok script → past_limit opening.shape opening.flows ≡ None
-    → replies ≡ replayed_with_updates (opened opening) script → text ≡ report script replies → outcome bytes ≡ Ok text
-unfolding outcome
-comes_to bytes text all left opening script replies all_are said left_is says within replied prints =
+-- what was read and built is what the input comes to
+pub comes_to : {A : Type 0} (made : Opening → List Event → A) (bytes : List ℕ) (all left : List Row) (opening : Opening) (script : List Event) → all ≡ rows bytes
+    → opening_of all ≡ Ok opening → left ≡ drop opening.begin_row all → script_of Replay opening.shape opening.begin_row left ≡ Ok script
+    → past_limit opening.shape opening.flows ≡ None → outcome_by made bytes ≡ Ok (made opening script)
+unfolding outcome_by
+comes_to made bytes all left opening script all_are said left_is says within =
     let opens : opening_of (rows bytes) ≡ Ok opening = sym (ap opening_of all_are) ∙ said in
     let rest : left ≡ drop opening.begin_row (rows bytes) = left_is ∙ ap (drop opening.begin_row) all_are in
     let goes_on : script_of Replay opening.shape opening.begin_row (drop opening.begin_row (rows bytes)) ≡ Ok script =
     sym (ap (script_of Replay opening.shape opening.begin_row) rest) ∙ says in
-    rw (opens, goes_on, within, prints, replied) refl
+    rw (opens, goes_on, within) refl
+
+-- what is made of the script and its replies is what the input comes to by that
+module _ {A : Type 0} (f : Replies → A) (bytes : List ℕ) where
+  abbrev by_f : Opening → List Event → A
+  by_f opening script = f (replay_replies opening script)
+
+  pub made_of_replies : (r : Replies) → outcome_by replay_replies bytes ≡ Ok r → outcome_by by_f bytes ≡ Ok (f r)
+  unfolding outcome_by
+  made_of_replies r e = in_rows (opening_of (rows bytes)) e
+    where
+      in_build : (opening : Opening) (script : List Event) (past : Option PastLimit) → outcome_of_build replay_replies opening script past ≡ Ok r
+          → outcome_of_build by_f opening script past ≡ Ok (f r)
+      in_build opening script (Some past) e = cc e
+      in_build opening script None e = let is : replay_replies opening script ≡ r = cc e in ap (λ (x : Replies). Ok (f x)) is
+
+      in_script : (opening : Opening) (read : Result (List Event) BadRow) → outcome_of_script replay_replies opening read ≡ Ok r → outcome_of_script by_f opening read ≡ Ok (f r)
+      in_script opening (Ok script) e = in_build opening script (past_limit opening.shape opening.flows) e
+      in_script opening (Err bad) e = cc e
+
+      in_rows : (read : Result Opening BadRow) → outcome_of_rows replay_replies (rows bytes) read ≡ Ok r → outcome_of_rows by_f (rows bytes) read ≡ Ok (f r)
+      in_rows (Ok opening) e = in_script opening (script_of Replay opening.shape opening.begin_row (drop opening.begin_row (rows bytes))) e
+      in_rows (Err bad) e = cc e
+
+  pub fault_of_replies : (fault : InputFault) → outcome_by replay_replies bytes ≡ Err fault → outcome_by by_f bytes ≡ Err fault
+  unfolding outcome_by
+  fault_of_replies fault e = in_rows (opening_of (rows bytes)) e
+    where
+      in_build : (opening : Opening) (script : List Event) (past : Option PastLimit) → outcome_of_build replay_replies opening script past ≡ Err fault
+          → outcome_of_build by_f opening script past ≡ Err fault
+      in_build opening script (Some past) e = let is : fault_of_limit past ≡ fault = cc e in ap (λ (x : InputFault). Err x) is
+      in_build opening script None e = cc e
+
+      in_script : (opening : Opening) (read : Result (List Event) BadRow) → outcome_of_script replay_replies opening read ≡ Err fault → outcome_of_script by_f opening read ≡ Err fault
+      in_script opening (Ok script) e = in_build opening script (past_limit opening.shape opening.flows) e
+      in_script opening (Err bad) e = let is : Bad bad ≡ fault = cc e in ap (λ (x : InputFault). Err x) is
+
+      in_rows : (read : Result Opening BadRow) → outcome_of_rows replay_replies (rows bytes) read ≡ Err fault → outcome_of_rows by_f (rows bytes) read ≡ Err fault
+      in_rows (Ok opening) e = in_script opening (script_of Replay opening.shape opening.begin_row (drop opening.begin_row (rows bytes))) e
+      in_rows (Err bad) e = let is : Bad bad ≡ fault = cc e in ap (λ (x : InputFault). Err x) is
+
+  -- the fault that is named, if one is
+  pub named_of_replies : (named : Option InputFault) → IfSome named (λ reason. outcome_by replay_replies bytes ≡ Err reason) → IfSome named (λ reason. outcome_by by_f bytes ≡ Err reason)
+  named_of_replies None e = e
+  named_of_replies (Some fault) e = fault_of_replies fault e
+
+-- there is a row for each event, one for the end of the script, and those up to `begin`
+pub rows_counted : (all left : List Row) (opening : Opening) (script : List Event) → IsOpening all opening → left ≡ drop opening.begin_row all
+    → IsScript Replay opening.shape left script → length all ≡ opening.begin_row + length script + 1
+rows_counted all left opening script opens left_is goes_on =
+    let up_to : length all ≡ length opens.sound + (1 + length opens.after) = ap length opens.split ∙ length-append opens.sound (opens.begin ∷ opens.after) ∙ omega arith in
+    let left_of : length left ≡ length all - opening.begin_row = ap length left_is ∙ length-drop opening.begin_row all in
+    let later : length left ≡ length goes_on.before + 1 = ap length goes_on.split ∙ length-append goes_on.before (goes_on.last ∷ []) in
+    let each : length goes_on.before ≡ length script =
+    sym (length-map goes_on.before (script_row Replay opening.shape)) ∙ ap length goes_on.say_events.each_says ∙ length-map script (λ (event : Event). Ok (Some event)) in
+    omega (arith, opens.number)
 
 -- what is replied to a script that was read is of its events
 pub replies_fit : (all left : List Row) (opening : Opening) (script : List Event) → IsOpening all opening → past_limit opening.shape opening.flows ≡ None

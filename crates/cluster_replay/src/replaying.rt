@@ -1,9 +1,12 @@
-ghost use Rattle.std.specs.Prelude.{◌≤◌, IfOk, length};
+ghost use Rattle.std.specs.Prelude.{◌≡◌, ◌+◌, ◌<◌, ◌≤◌, ◌^◌, IfOk, length};
 ghost use Rattle.out_of_memory.specs.Answer.{Answers};
+ghost use Rattle.csv_rows.specs.Rows.{rows};
 ghost use Rattle.flow_types.specs.Input.{most_octets};
 ghost use Rattle.packet_reader.specs.declared.mode.Mode.TheVariants.{Replay};
+ghost use Rattle.run_report.specs.Report.{AreOfTheirEvents};
 ghost use Rattle.cluster_replay.specs.Limits.{named_fault};
-ghost use Rattle.cluster_replay.specs.Outcome.{outcome};
+ghost use Rattle.cluster_replay.specs.Outcome.{outcome, outcome_by, replay_replies};
+ghost use Rattle.cluster_replay.specs.Seen.{said};
 ghost use Rattle.cluster_replay.specs.Headline.{IsRunOf};
 
 use crate::answering::replies;
@@ -11,15 +14,26 @@ use crate::fault::InputFault;
 use crate::opening::open;
 use csv_rows::RowReader;
 use flow_reader::read_opening_from;
-use packet_reader::{Mode, read_script_from};
+use packet_reader::{Event, Mode, read_script_from};
+use replay_model::Reply;
 use run_report::report;
 use std::alloc::Global;
 use std::thread::Threads;
 
+/// What became of an input's events.
+#[derive(Debug, Drop)]
+pub struct Replayed {
+    /// The events, in order.
+    pub script: Vec<Event>,
+    /// The reply to each.
+    pub replies: Vec<Reply>,
+    /// How many rows the input has.
+    pub row_count: u32,
+}
+
 /// The printed run of an input: the rows up to `begin` are read, then the script, the table is built, each event gets its
 /// reply, and the report prints them. The fault is the first row that breaks a rule, or else the first block that is past a
 /// limit.
-#[tactic(auto, unfolding(crate::specs::Outcome::outcome))]
 pub fn replay<R: Threads + Sync>(
     rt: &R,
     alloc: Global,
@@ -31,6 +45,27 @@ pub fn replay<R: Threads + Sync>(
     requires limit { length bytes.now ≤ most_octets }
     ensures answers { Answers (λ text. text.items) named_fault (outcome bytes.now) result }
     ensures run { IfOk result (λ text. IsRunOf Replay 1 bytes.now text.items) }
+{
+    match answer_rows(rt, alloc, bytes, workers) {
+        Ok(made) => Ok(report(alloc, made.script.as_slice(), made.replies.as_slice())?),
+        Err(fault) => Err(fault),
+    }
+}
+
+/// The events of an input and the replies to them, as `replay` prints them, with its faults.
+#[tactic(auto, unfolding(crate::specs::Outcome::outcome_by))]
+pub fn answer_rows<R: Threads + Sync>(
+    rt: &R,
+    alloc: Global,
+    bytes: &[u8],
+    workers: u8,
+) -> Result<Replayed, InputFault>
+    requires some_worker { 1 ≤ workers }
+    requires few_workers { workers ≤ 64 }
+    requires limit { length bytes.now ≤ most_octets }
+    ensures answers { Answers said named_fault (outcome_by replay_replies bytes.now) result }
+    ensures fit { IfOk result (λ made. AreOfTheirEvents made.script.items made.replies.items) }
+    ensures counted { IfOk result (λ made. made.row_count ≡ length (rows bytes.now)) }
 {
     let mut reader = RowReader::new(alloc, bytes);
     let opening = read_opening_from(alloc, &mut reader)?;
@@ -46,5 +81,18 @@ pub fn replay<R: Threads + Sync>(
         Err(fault) => return Err(fault),
     };
     let replies = replies(alloc, &mut cluster, script.as_slice())?;
-    Ok(report(alloc, script.as_slice(), replies.as_slice())?)
+    let row_count = row_count(opening.begin_row, script.len());
+    Ok(Replayed {
+        script,
+        replies,
+        row_count,
+    })
+}
+
+/// How many rows there are, where `begin` stands in the row of this number: those up to it, one for each event, and `end`.
+fn row_count(begin_row: u32, events: usize) -> u32
+    requires { begin_row + events + 1 < 2 ^ 32 }
+    ensures { result ≡ begin_row + events + 1 }
+{
+    begin_row + events as u32 + 1
 }

@@ -1,4 +1,3 @@
-mod Words
 mod Counts
 mod LineByLine
 pub mod EventKinds

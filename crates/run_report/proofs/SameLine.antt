@@ -5,7 +5,8 @@ use Rattle.flow_types.specs.declared.record.Record.{Record}
 use Rattle.flow_types.specs.Text.{address_text}
 use Rattle.replay_model.specs.declared.reply.Reply.{Reply}
 use Rattle.replay_model.specs.declared.reply.Reply.TheVariants.{Found, Unknown, Nowhere}
-use Rattle.run_report.specs.Report.{fib_words, found_line, hops, line_feed, node_words, nowhere_line, packet_line, packet_words, record_words, seen_words, unknown_line, unknown_words}
+use Rattle.line_text.specs.Line.{line_feed}
+use Rattle.run_report.specs.Report.{fib_words, found_line, hops, node_words, nowhere_line, packet_line, packet_words, record_words, seen_words, unknown_line, unknown_words}
 use Rattle.run_report.proofs.Addresses.{address_texts_apart, glyphs-address}
 use Rattle.run_report.proofs.Fields.{concat-spelled, ended, number_ended, spelled, spelled-cancel}
 

@@ -10,7 +10,8 @@ use Rattle.packet_reader.specs.declared.event.Event.TheVariants.{Set, Del, Packe
 use Rattle.packet_reader.specs.declared.event.Part.TheVariants.{Table, Fib}
 use Rattle.rib_owner.specs.declared.refused.UpdateRefused.TheVariants.{Spent, Absent, BlockFull, RowsFull}
 use Rattle.replay_model.specs.declared.reply.Reply.TheVariants.{Accepted, Refused, Found, Unknown, Nowhere, Applied, RepeatHave, EarlyHave, Unsent, Synced}
-use Rattle.run_report.specs.Report.{accepted_line, carry_line, found_line, last_line, line_feed, lines, nowhere_line, refused_line, report, unknown_line}
+use Rattle.line_text.specs.Line.{line_feed}
+use Rattle.run_report.specs.Report.{accepted_line, carry_line, found_line, last_line, lines, nowhere_line, refused_line, report, unknown_line}
 
 abbrev key : FlowKey
 key = record { source = 167772161; destination = 3221225991; source_port = 1000; destination_port = 443; protocol = 6 }

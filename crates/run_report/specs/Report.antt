@@ -1,22 +1,16 @@
 -- The printed lines of a run: one for each event but a `sync`, and the last line with the packets' counts.
 use Rattle.std.specs.Prelude.{◌≡◌, ◌≢◌, ℕ, ◌+◌, ◌==◌, Bool, true, false, if◌then◌else◌, List, [], ◌∷◌, ◌++◌, codes, count_by}
-use Rattle.std.specs.List.{AllZip, concat}
+use Rattle.std.specs.List.{AllZip}
 use Rattle.std.specs.Fmt.{decimal}
 use Rattle.flow_types.specs.declared.record.Record.{Record}
 use Rattle.flow_types.specs.Text.{address_text}
+use Rattle.line_text.specs.Line.{line_of}
 use Rattle.packet_reader.specs.declared.event.Event.{Event}
 use Rattle.packet_reader.specs.declared.event.Event.TheVariants.{Set, Del, Packet, Carry, Sync}
 use Rattle.rib_owner.specs.declared.refused.UpdateRefused.{UpdateRefused}
 use Rattle.rib_owner.specs.declared.refused.UpdateRefused.TheVariants.{Spent, Absent, BlockFull, RowsFull, OutOfMemory}
 use Rattle.replay_model.specs.declared.reply.Reply.{Reply}
 use Rattle.replay_model.specs.declared.reply.Reply.TheVariants.{Accepted, Refused, Found, Unknown, Nowhere, Applied, RepeatHave, EarlyHave, Unsent, Synced}
-
--- a line ends with one line feed
-abbrev pub line_feed : List ℕ
-line_feed = 10 ∷ []
-
-abbrev pub line_of : List (List ℕ) → List ℕ
-line_of words = concat (words ++ line_feed ∷ [])
 
 -- ---- updates
 
@@ -148,6 +142,29 @@ is_unknown _ = false
 -- all that a run prints
 unfoldable pub report : List Event → List Reply → List ℕ
 report script replies = lines 0 script replies ++ last_line (count_by is_found replies) (count_by is_unknown replies)
+
+-- ---- one line for all
+
+abbrev pub is_accepted : Reply → Bool
+is_accepted (Accepted owner turn) = true
+is_accepted _ = false
+
+abbrev pub is_refused : Reply → Bool
+is_refused (Refused refused) = true
+is_refused _ = false
+
+-- the line of a run over rows that were made from a seed: how many rows there were, how many of the updates were accepted and
+-- how many refused, how many packets there were, how many of their flows were found, and how many not
+unfoldable pub summary_line : (seed rows accepted refused found unknown : ℕ) → List ℕ
+summary_line seed rows accepted refused found unknown =
+    line_of
+    (codes "grind seed " ∷ decimal seed ∷ codes " rows " ∷ decimal rows ∷ codes " accepted " ∷ decimal accepted ∷ codes " refused " ∷ decimal refused
+    ∷ codes " packets " ∷ decimal (found + unknown) ∷ codes " found " ∷ decimal found ∷ codes " unknown " ∷ decimal unknown ∷ [])
+
+-- all that is printed of such a run
+unfoldable pub summary : (seed rows : ℕ) → List Reply → List ℕ
+summary seed rows replies =
+    summary_line seed rows (count_by is_accepted replies) (count_by is_refused replies) (count_by is_found replies) (count_by is_unknown replies)
 
 -- ---- which replies are printed
 

@@ -3,10 +3,10 @@
 ghost use Rattle.std.specs.Prelude.{◌≡◌, ◌+◌, ◌^◌, ◌<◌, [], ◌∷◌, ◌++◌, codes, OnOk};
 ghost use Rattle.std.specs.List.{concat};
 ghost use Rattle.std.specs.Fmt.{decimal};
-ghost use Rattle.run_report.specs.Report.{IsOfCarry, IsOfEvent, IsOfPacket, IsOfUpdate, IsPrinted, accepted_line, carry_line, carry_words, fib_words, found_line, hops, last_line, line, node_words, nowhere_line, packet_line, packet_words, record_words, refusal_words, refused_line, rows_words, seen_words, unknown_line, update_line};
+ghost use Rattle.run_report.specs.Report.{IsOfCarry, IsOfEvent, IsOfPacket, IsOfUpdate, IsPrinted, accepted_line, carry_line, carry_words, fib_words, found_line, hops, last_line, line, node_words, nowhere_line, packet_line, packet_words, record_words, refusal_words, refused_line, rows_words, seen_words, summary_line, unknown_line, update_line};
 
 use flow_types::{Record, write_address};
-use itoa::Buffer;
+use line_text::{write_count, write_words};
 use packet_reader::Event;
 use replay_model::Reply;
 use rib_owner::UpdateRefused;
@@ -241,17 +241,25 @@ pub fn write_last_line(text: &mut Vec<u8>, found: usize, unknown: usize) -> Resu
     write_words(text, b"\n")
 }
 
-/// Appends words and a number.
-fn write_count(text: &mut Vec<u8>, words: &[u8], number: u64) -> Result<(), AllocError>
-    ensures { OnOk result (text.new.items ≡ text.old.items ++ concat (words.now ∷ decimal number ∷ [])) }
+/// Appends the one line of a run over rows that were made from a seed: the counts of its rows, of its accepted and refused
+/// updates, and of its packets whose flows were found and weren't.
+pub fn write_summary_line(
+    text: &mut Vec<u8>,
+    seed: u32,
+    rows: u32,
+    updates: (usize, usize),
+    packets: (usize, usize),
+) -> Result<(), AllocError>
+    requires { packets.0 + packets.1 < 2 ^ 64 }
+    ensures { OnOk result (text.new.items ≡ text.old.items ++ summary_line seed rows updates.0 updates.1 packets.0 packets.1) }
 {
-    let mut digits = Buffer::new();
-    write_words(text, words)?;
-    write_words(text, digits.format(number).as_bytes())
-}
-
-fn write_words(text: &mut Vec<u8>, words: &[u8]) -> Result<(), AllocError>
-    ensures { OnOk result (text.new.items ≡ text.old.items ++ concat (words.now ∷ [])) }
-{
-    text.extend_from_slice(words)
+    let ((accepted, refused), (found, unknown)) = (updates, packets);
+    write_count(text, b"grind seed ", u64::from(seed))?;
+    write_count(text, b" rows ", u64::from(rows))?;
+    write_count(text, b" accepted ", accepted as u64)?;
+    write_count(text, b" refused ", refused as u64)?;
+    write_count(text, b" packets ", (found + unknown) as u64)?;
+    write_count(text, b" found ", found as u64)?;
+    write_count(text, b" unknown ", unknown as u64)?;
+    write_words(text, b"\n")
 }

@@ -1,7 +1,8 @@
 use Rattle.std.proofs.Common.{[], ◌∷◌, ◌++◌}
 use Rattle.std.proofs.lemmas.Result.{on_ok_weaker}
-use Rattle.run_report.specs.Report.{nowhere_line, packet_words, seen_words, unknown_words, line_feed}
-use Rattle.run_report.proofs.Words.{more_words}
+use Rattle.line_text.specs.Line.{line_feed}
+use Rattle.run_report.specs.Report.{nowhere_line, packet_words, seen_words, unknown_words}
+use Rattle.line_text.proofs.Words.{more_words}
 use Rattle.run_report.proofs.lines.write_nowhere.Goals as goal
 
 pub returns : goal.returns

@@ -1,7 +1,8 @@
 use Rattle.std.proofs.Common.{ℕ, List, [], ◌∷◌, ◌++◌, codes}
 use Rattle.std.proofs.lemmas.Result.{on_ok_weaker}
-use Rattle.run_report.specs.Report.{line_feed, refusal_words, refused_line}
-use Rattle.run_report.proofs.Words.{more_words}
+use Rattle.line_text.specs.Line.{line_feed}
+use Rattle.run_report.specs.Report.{refusal_words, refused_line}
+use Rattle.line_text.proofs.Words.{more_words}
 use Rattle.run_report.proofs.lines.write_refused.Goals as goal
 
 pub returns : goal.returns

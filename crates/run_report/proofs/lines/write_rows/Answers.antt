@@ -1,6 +1,6 @@
 use Rattle.std.proofs.Common.{ℕ, List, [], ◌∷◌, codes, decimal}
 use Rattle.std.proofs.lemmas.Result.{on_ok_weaker}
-use Rattle.run_report.proofs.Words.{more_words}
+use Rattle.line_text.proofs.Words.{more_words}
 use Rattle.run_report.proofs.lines.write_rows.Goals as goal
 
 pub returns : goal.returns

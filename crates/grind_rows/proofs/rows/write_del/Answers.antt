@@ -1,0 +1,14 @@
+use Rattle.std.proofs.Common.{ℕ, List, [], ◌∷◌, ◌++◌, codes}
+use Rattle.std.proofs.lemmas.Result.{on_ok_weaker}
+use Rattle.line_text.specs.Line.{line_feed}
+use Rattle.line_text.proofs.Words.{more_words}
+use Rattle.grind_rows.specs.Rows.{del_row, key_words}
+use Rattle.grind_rows.proofs.rows.write_del.Goals as goal
+
+pub returns-clause-written : goal.returns-clause-written
+unfolding del_row
+returns-clause-written c =
+    let kind : List (List ℕ) = codes "del" ∷ [] in
+    on_ok_weaker _ (more_words (kind ++ key_words c.args.key) (line_feed ∷ []) _ _ _
+    (more_words kind (key_words c.args.key) _ _ _ c.in_ok-append.ensures.written c.in_ok-append_key.ensures.written))
+    c.append-2.ensures.written

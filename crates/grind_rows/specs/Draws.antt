@@ -1,0 +1,11 @@
+-- The random numbers of a grind.
+use Rattle.std.specs.Prelude.{ℕ, ◌+◌, ◌*◌, ◌%◌, ◌^◌}
+use Rattle.hash_family.specs.Hash.{mix}
+
+-- what each draw adds to the state: 2^64 divided by the golden ratio, to the nearest odd number
+abbrev pub draw_step : ℕ
+draw_step = 0x9E3779B97F4A7C15
+
+-- the state starts at the seed, and each draw adds the step to it and gives it mixed: this is the draw of this number, from 0
+unfoldable pub draw : (seed number : ℕ) → ℕ
+draw seed number = mix ((seed + (number + 1) * draw_step) % 2 ^ 64)
