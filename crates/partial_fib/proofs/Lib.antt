@@ -1,6 +1,11 @@
 pub mod KeyNumbers
+pub mod EntrySteps
 pub mod Places
 pub mod TurnFacts
 pub mod Handled
 pub mod MapAnswers
 pub mod Own
+pub mod TurnSteps
+pub mod Prefixes
+pub mod Adding
+pub mod Keeping

@@ -3,3 +3,7 @@ pub mod Fib
 pub mod Message
 pub mod Store
 pub mod Answering
+pub mod Turns
+pub mod Ends
+pub mod History
+pub mod Rule

@@ -17,6 +17,11 @@ use Rattle.partial_fib.specs.Fib.{fib_after, with_turn}
 abbrev pub FibMessageFits : Size → FibMessage → Type 0
 FibMessageFits size message = Fits size (Fib message)
 
+-- the message is the next turn of the owner, after so many
+pub record IsNextTurn (owner taken : ℕ) (message : FibMessage) : Type 0 where
+  pub of_owner : message.owner ≡ owner
+  pub next : message.turn ≡ taken + 1
+
 -- the message to a node of an owner's change after these others
 abbrev pub message_after : Size → (node owner : ℕ) → List Flow → (before : List Change) → Change → FibMessage
 message_after size node owner flows before change = record {

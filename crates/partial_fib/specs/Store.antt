@@ -1,13 +1,18 @@
 -- How a FIB keeps what it says: the records with their keys in some order, and the versions of its owner's groups block by
 -- block, and in a block group by group.
-use Rattle.std.specs.Prelude.{ℕ, ◌≡◌, ◌==◌, ◌&&◌, ◌+◌, ◌-◌, ◌*◌, ◌/◌, ◌%◌, ◌≤◌, Bool, nat_lt, if◌then◌else◌, List, length, slice_index_or, Option}
-use Rattle.std.specs.Map.{lookup}
+use Rattle.std.specs.Prelude.{ℕ, ◌≡◌, ◌==◌, ◌&&◌, ◌+◌, ◌-◌, ◌*◌, ◌/◌, ◌%◌, ◌≤◌, Bool, nat_lt, if◌then◌else◌, List, length, slice_index_or, slice_set, Option}
+use Rattle.std.specs.List.{IsDistinct}
+use Rattle.std.specs.Map.{keys_of, lookup}
+use Rattle.indexmap.specs.IndexMap.{insert_entry, swap_remove_entry}
 use Rattle.flow_types.specs.declared.key.FlowKey.{FlowKey}
 use Rattle.flow_types.specs.declared.record.Record.{Record}
 use Rattle.flow_types.specs.Key.{key_of, same_key}
 use Rattle.flow_types.specs.Size.{Size}
 use Rattle.group_search.specs.Home.{Home}
-use Rattle.partial_fib.specs.Fib.{FibState}
+use Rattle.delta_codec.specs.declared.message.FibMessage.{FibMessage}
+use Rattle.delta_codec.specs.declared.message.FibOp.{FibOp}
+use Rattle.delta_codec.specs.declared.message.FibOp.TheVariants.{Nothing, Put, Drop}
+use Rattle.partial_fib.specs.Fib.{FibState, group_of_message}
 
 -- what a contract sees of a FIB
 pub record FibStore : Type 0 where
@@ -49,3 +54,39 @@ state_of fib = record {
   versions = version_in fib.size fib.owner fib.counts;
   taken = fib.taken;
 }
+
+-- ---- a turn
+
+-- the entries after what a turn means for them: a key that is there keeps its place and takes the record, a new key goes last,
+-- and the last entry takes the place of one that goes
+abbrev pub entries_with : List (FlowKey × Record) → FibOp → List (FlowKey × Record)
+entries_with entries Nothing = entries
+entries_with entries (Put key info) = insert_entry same_key entries key info
+entries_with entries (Drop key) = swap_remove_entry (same_key key) entries
+
+-- the versions with the next one at this place
+abbrev pub counts_with : (counts : List ℕ) → (place : ℕ) → List ℕ
+counts_with counts place = slice_set counts place (slice_index_or counts place 0 + 1)
+
+-- what a FIB keeps after one more turn
+abbrev pub store_with : FibStore → FibMessage → FibStore
+store_with fib message = record fib {
+  entries = entries_with fib.entries message.op;
+  counts = counts_with fib.counts (slot_of fib.size.nodes (group_of_message message));
+  taken = fib.taken + 1;
+}
+
+-- no key has two entries
+abbrev pub HasEachKeyOnce : List (FlowKey × Record) → Type 0
+HasEachKeyOnce entries = IsDistinct same_key (keys_of entries)
+
+-- and each group of the owner has a place
+pub record IsWhole (fib : FibStore) : Type 0 where
+  pub once : HasEachKeyOnce fib.entries
+  pub places : length fib.counts ≡ (fib.size.blocks - 1) / fib.size.nodes * 64 + 64
+
+-- it is whole, and has taken no turn
+pub record IsUnturned (fib : FibStore) : Type 0 where
+  pub whole : IsWhole fib
+  pub untaken : fib.taken ≡ 0
+  pub unversioned : (at : Home) → version_in fib.size fib.owner fib.counts at ≡ 0

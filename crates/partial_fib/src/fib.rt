@@ -1,13 +1,14 @@
-ghost use Rattle.std.specs.Prelude.{◌≡◌, ◌≢◌, ◌↔◌, ℕ, ◌+◌, ◌<◌, ◌≤◌, ◌%◌, [], OnOk, OnErr, IfOk, IsErrOf};
+ghost use Rattle.std.specs.Prelude.{◌≡◌, ◌≢◌, ◌↔◌, ℕ, ◌+◌, ◌<◌, ◌≤◌, ◌%◌, [], length, OnOk, OnErr, IfOk, IsOk, IsErr, IsErrOf};
 ghost use Rattle.flow_types.specs.Key.{number};
 ghost use Rattle.flow_types.specs.Map.{AreDistinct};
+ghost use Rattle.group_search.specs.Home.{Home};
 ghost use Rattle.delta_codec.specs.Values.{IsKeyValue};
 ghost use Rattle.partial_fib.specs.declared.refused.FibRefused.TheVariants.{Foreign, Repeat, Early};
 ghost use Rattle.partial_fib.specs.declared.refused.FibRefused.TheVariants as causes;
 ghost use Rattle.partial_fib.specs.Fib.{fib_after, is_handled_of, with_turn};
-ghost use Rattle.partial_fib.specs.Message.{FibMessageFits};
+ghost use Rattle.partial_fib.specs.Message.{FibMessageFits, IsNextTurn};
 ghost use Rattle.partial_fib.specs.Op.{IsPut};
-ghost use Rattle.partial_fib.specs.Store.{record_among, state_of};
+ghost use Rattle.partial_fib.specs.Store.{IsWhole, record_among, state_of, store_with, version_in};
 
 use crate::records::Records;
 use crate::refused::FibRefused;
@@ -17,7 +18,7 @@ use delta_codec::FibMessage;
 use flow_types::{Flow, FlowKey, Shape};
 use hash_family::place;
 use out_of_memory::OutOfMemory;
-use std::alloc::Global;
+use std::alloc::{AllocError, Global};
 use std::marker::Model;
 
 /// One node's FIB of one owner: the records of the keys in the owner's blocks that the node handles, by the owner's turns
@@ -86,6 +87,25 @@ impl Fib {
         ensures memory { IsErrOf result causes.OutOfMemory → IsPut message.now.op }
         ensures refused { OnErr result (self.new ≡ self.old) }
     {
+        if let Err(refused) = self.awaits(message) {
+            return Err(refused);
+        }
+        self.take(message)?;
+        Ok(())
+    }
+
+    /// Whether the message is the owner's next turn, or why it isn't. It takes no memory.
+    pub(crate) fn awaits(&self, message: &FibMessage) -> Result<(), FibRefused>
+        requires { FibMessageFits self.now.size message.now }
+        ensures next { IsOk result ↔ IsNextTurn self.now.owner self.now.taken message.now }
+        ensures foreign { (owner : ℕ) → IsErrOf result (Foreign owner) ↔
+            ((message.now.owner ≢ self.now.owner) × (owner ≡ message.now.owner)) }
+        ensures repeat { (have : ℕ) → IsErrOf result (Repeat have) ↔
+            ((message.now.owner ≡ self.now.owner) × (message.now.turn ≤ self.now.taken) × (have ≡ self.now.taken)) }
+        ensures early { (have : ℕ) → IsErrOf result (Early have) ↔
+            ((message.now.owner ≡ self.now.owner) × (self.now.taken + 1 < message.now.turn) × (have ≡ self.now.taken)) }
+        ensures memory { ¬ IsErrOf result causes.OutOfMemory }
+    {
         if message.owner != self.owner {
             return Err(FibRefused::Foreign {
                 owner: message.owner,
@@ -98,6 +118,19 @@ impl Fib {
         if message.turn > have + 1 {
             return Err(FibRefused::Early { have });
         }
+        Ok(())
+    }
+
+    /// Takes the owner's next turn.
+    pub(crate) fn take(&mut self, message: &FibMessage) -> Result<(), OutOfMemory>
+        requires fits { FibMessageFits self.old.size message.now }
+        requires next { IsNextTurn self.old.owner self.old.taken message.now }
+        ensures kept { OnOk result (self.new ≡ store_with self.old message.now) }
+        ensures taken { OnOk result (state_of self.new ≡ with_turn (state_of self.old) message.now) }
+        // Only a message that puts a record can lack memory.
+        ensures memory { IsErr result → IsPut message.now.op }
+        ensures refused { OnErr result (self.new ≡ self.old) }
+    {
         self.records.change(message.op)?;
         self.versions[slot(self.shape, message.block, message.group)] += 1;
         self.taken += 1;
@@ -125,6 +158,39 @@ impl Fib {
         ensures { result ≡ self.now.taken }
     {
         self.taken
+    }
+
+    /// The cluster's shape.
+    pub(crate) fn shape(&self) -> Shape
+        ensures { result ≡ self.now.size }
+    {
+        self.shape
+    }
+
+    /// How many keys have a record.
+    pub(crate) fn len(&self) -> usize
+        ensures count { result ≡ length self.now.entries }
+        ensures whole { IsWhole self.now }
+        ensures few { (at : Home) → version_in self.now.size self.now.owner self.now.counts at ≤ self.now.taken }
+    {
+        self.records.len()
+    }
+}
+
+impl Clone for Fib {
+    ghost use Rattle.std.specs.Prelude.{◌≡◌};
+
+    ghost is_clone = { λ fib copy. copy ≡ fib };
+
+    fn clone(&self) -> Result<Fib, AllocError> {
+        Ok(Fib {
+            shape: self.shape,
+            node: self.node,
+            owner: self.owner,
+            records: self.records.clone()?,
+            versions: self.versions.clone()?,
+            taken: self.taken,
+        })
     }
 }
 

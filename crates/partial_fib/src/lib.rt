@@ -13,6 +13,7 @@ pub mod laws;
 mod records;
 mod refused;
 mod seen;
+mod sharing;
 mod slot;
 #[cfg(test)]
 mod tests;
@@ -20,3 +21,4 @@ mod tests;
 pub use fib::Fib;
 pub use refused::FibRefused;
 pub use seen::FibSeen;
+pub use sharing::{FibReader, FibWriter, share, told};

@@ -7,8 +7,8 @@ use Rattle.partial_fib.specs.Store.{record_among}
 use Rattle.partial_fib.proofs.KeyNumbers.{updated}
 use Rattle.partial_fib.proofs.records.Records.remove.Goals as goal
 
-pub returns : goal.returns
-returns c =
+pub returns-clause-removed : goal.returns-clause-removed
+returns-clause-removed c =
     updated c.args.key None c.self.inside.of_keys.entries c.swap_remove.new.self.entries
     (record { source = omega arith; destination = omega arith; source_port = omega arith; destination_port = omega arith; protocol = omega arith })
     c.swap_remove.ensures.updates.0

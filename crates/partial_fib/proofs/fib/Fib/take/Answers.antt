@@ -1,8 +1,8 @@
-use Rattle.std.proofs.Common.{◌∙◌, ◌+◌, set, ap, arith}
+use Rattle.std.proofs.Common.{◌∙◌, ◌+◌, set, sym, ap, arith}
 use Rattle.partial_fib.specs.Fib.{group_of_message, with_turn}
 use Rattle.partial_fib.specs.Store.{FibStore, state_of}
 use Rattle.partial_fib.proofs.Places.{count_of_message, low_version, one_more_at, same_turn}
-use Rattle.partial_fib.proofs.fib.Fib.apply.Goals as goal
+use Rattle.partial_fib.proofs.fib.Fib.take.Goals as goal
 
 pub overflow_add-index_mut : goal.overflow_add-index_mut
 overflow_add-index_mut c =
@@ -15,10 +15,10 @@ overflow_add-index_mut c =
       counts = c.self.inside.versions.items;
       taken = c.self.inside.taken;
     } in
-    let is = count_of_message fib c.args.self.now message c.slot.result c.index_mut.result.now c.self.view_is c.requires c.if-message-self.false
+    let is = count_of_message fib c.args.self.now message c.slot.result c.index_mut.result.now c.self.view_is c.requires.fits (c.requires.next.of_owner ∙ sym (ap (λ (f : FibStore). f.owner) c.self.view_is))
     c.self.invariant c.slot.ensures.value c.slot.ensures.there c.index_mut.ensures.value in
     let low = low_version fib.size fib.owner fib.taken fib.counts (group_of_message message) c.self.invariant is.own in
-    omega (arith, low, is.count_is, c.if-message-have.false, c.requires.last_turn)
+    omega (arith, low, is.count_is, c.requires.fits.last_turn, c.requires.next.next, ap (λ (f : FibStore). f.taken) c.self.view_is)
 
 pub returns-clause-taken : goal.returns-clause-taken
 returns-clause-taken c =
@@ -31,7 +31,7 @@ returns-clause-taken c =
       counts = c.self.inside.versions.items;
       taken = c.self.inside.taken;
     } in
-    let is = count_of_message fib c.args.self.now message c.slot.result c.index_mut.result.now c.self.view_is c.requires c.if-message-self.false
+    let is = count_of_message fib c.args.self.now message c.slot.result c.index_mut.result.now c.self.view_is c.requires.fits (c.requires.next.of_owner ∙ sym (ap (λ (f : FibStore). f.owner) c.self.view_is))
     c.self.invariant c.slot.ensures.value c.slot.ensures.there c.index_mut.ensures.value in
     same_turn fib message c.change.new.self (set fib.counts c.slot.result (c.index_mut.result.now + 1))
     c.in_ok-change.ensures.changed

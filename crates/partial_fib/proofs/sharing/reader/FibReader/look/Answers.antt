@@ -1,0 +1,17 @@
+use Rattle.std.proofs.Common.{◌≡◌, ◌∙◌, sym, ap, subst, Some, arith, length}
+use Rattle.partial_fib.specs.Ends.{There}
+use Rattle.partial_fib.specs.Rule.{opening_of}
+use Rattle.partial_fib.proofs.Keeping.{before_one}
+use Rattle.partial_fib.proofs.TurnSteps.{taken_is_length}
+use Rattle.partial_fib.proofs.sharing.reader.FibReader.look.Goals as goal
+
+pub invariant_of-self : goal.invariant_of-self
+invariant_of-self g c =
+    let entered = c.entered-reading.ensures in
+    let known = subst (There _) (sym c.in-Some.ensures.value) c.self.invariant.0 in
+    let x = c.entered-reading.result.part.value in
+    let before = before_one c.in-Some.seat.place.me.0.client known.0 x known.1 entered.seen.later in
+    let taken = taken_is_length (opening_of x) x.past.log entered.seen.right.unturned in (
+      (x, c.leave.ensures.1 ∙ entered.seen.known, sym before.origin ∙ known.2, sym entered.past),
+      entered.taken ∙ ap (λ fib. fib.taken) entered.seen.right.turned ∙ taken ∙ ap (λ past. length past.log) (sym entered.past),
+    )
