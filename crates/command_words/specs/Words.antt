@@ -1,5 +1,5 @@
 -- What the words after the program's name ask for.
-use Rattle.std.specs.Prelude.{ℕ, true, nat_le, if◌then◌else◌, List, [], ◌∷◌, codes, Option, Some, None, option_and_then}
+use Rattle.std.specs.Prelude.{ℕ, ◌≤◌, true, nat_le, if◌then◌else◌, List, [], ◌∷◌, codes, Option, Some, None, option_and_then}
 use Rattle.std.specs.Str.{bytes_eq}
 use Rattle.clap.specs.Faults.{fault_of}
 use Rattle.clap.specs.Simple.{App, matches_of, new_app, new_rule, on_top, with_rule}
@@ -62,6 +62,14 @@ command_of rows =
     (number_in 1 64 (codes "workers") rows)
     (number_in 1 8 (codes "lanes") rows)
     (number_in 0 4294967295 (codes "seed") rows)
+
+-- the options of a command are in their ranges
+pub record IsInRange (command : Command) : Type 0 where
+  pub some_worker : 1 ≤ command.workers
+  pub few_workers : command.workers ≤ 64
+  pub some_lane : 1 ≤ command.lanes
+  pub few_lanes : command.lanes ≤ 8
+  pub short_seed : command.seed ≤ 4294967295
 
 -- what the words ask for, where they are a command: clap finds no fault in them, and their values say one
 unfoldable pub meant : List Text → Option Command

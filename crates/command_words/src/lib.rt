@@ -11,3 +11,6 @@ mod words;
 
 pub use command::{Command, Mode};
 pub use words::read_command;
+
+#[cfg(test)]
+mod tests;

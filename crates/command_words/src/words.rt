@@ -2,7 +2,7 @@ ghost use Rattle.std.specs.Prelude.{◌≡◌, ◌≤◌, false, IfOk, IfSome, m
 ghost use Rattle.clap.specs.Matches.{found_of};
 ghost use Rattle.clap.specs.Simple.{app_of};
 ghost use Rattle.clap.specs.Walk.{rows_of, rule_of};
-ghost use Rattle.command_words.specs.Words.{bare, command_of, meant, mode_in, mode_of, mode_rule, number_between, number_in, option_rule, program};
+ghost use Rattle.command_words.specs.Words.{IsInRange, bare, command_of, meant, mode_in, mode_of, mode_rule, number_between, number_in, option_rule, program};
 
 use crate::command::{Command, Mode};
 use clap::error::ErrorKind;
@@ -15,7 +15,8 @@ use std::alloc::{AllocError, Global};
 /// `grind`, and each at most once the options `--workers` (1..=64, by default 4), `--lanes` (1..=8, by default 2) and
 /// `--seed` (0..=4294967295, by default 1). A number is decimal digits without sign or leading zero.
 pub fn read_command(alloc: Global, words: &[String]) -> Result<Option<Command>, OutOfMemory>
-    ensures { IfOk result (λ read. read ≡ meant (map string_bytes words.now)) }
+    ensures meaning { IfOk result (λ read. read ≡ meant (map string_bytes words.now)) }
+    ensures ranges { IfOk result (λ read. IfSome read IsInRange) }
 {
     let line = command_line(alloc)?;
     match line.try_get_matches_from(words) {
@@ -66,7 +67,8 @@ fn option<'a>(alloc: Global, name: &'a str, default: &'a str) -> Arg<'a>
 /// What the matches of the words ask for.
 #[tactic(auto, unfolding(crate::specs::Words::command_of))]
 fn command_of(matches: &ArgMatches<'_>) -> Option<Command>
-    ensures { result ≡ command_of (rows_of (found_of matches.now)) }
+    ensures value { result ≡ command_of (rows_of (found_of matches.now)) }
+    ensures ranges { IfSome result IsInRange }
 {
     let mode = mode_in(matches)?;
     let workers = number_in(matches, "workers", 1, 64)?;
@@ -101,6 +103,7 @@ fn mode_of(name: &str) -> Option<Mode>
 /// The number from `low` to `high` that the option of this name has.
 fn number_in(matches: &ArgMatches<'_>, name: &str, low: u64, high: u64) -> Option<u64>
     ensures value { result ≡ number_in low high name.now (rows_of (found_of matches.now)) }
+    ensures least { IfSome result (λ number. low ≤ number) }
     ensures most { IfSome result (λ number. number ≤ high) }
 {
     number_between(low, high, matches.get_str(name)?)
@@ -109,6 +112,7 @@ fn number_in(matches: &ArgMatches<'_>, name: &str, low: u64, high: u64) -> Optio
 /// The number from `low` to `high` that the text writes.
 fn number_between(low: u64, high: u64, text: &str) -> Option<u64>
     ensures value { result ≡ number_between low high text.now }
+    ensures least { IfSome result (λ number. low ≤ number) }
     ensures most { IfSome result (λ number. number ≤ high) }
 {
     let number = read_number(text.as_bytes(), high)?;

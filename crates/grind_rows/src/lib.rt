@@ -14,3 +14,6 @@ mod made;
 mod rows;
 
 pub use input::grind_input;
+
+#[cfg(test)]
+mod tests;

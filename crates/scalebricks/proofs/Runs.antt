@@ -1,11 +1,11 @@
--- Where nothing was read, and what one word is.
-use Rattle.std.proofs.Common.{◌≡◌, ◌∙◌, ℕ, ◌<◌, ◌↔◌, Bool, map, List, [], ◌∷◌, length, get_or, drop, Option, None, Some, IfSome, ap, sym, arith, length-drop}
-use Rattle.std.specs.Prelude.{IsTrue}
-use Rattle.std.proofs.lemmas.Bool.Decides.{Decides-eqb}
-use Rattle.std.proofs.lemmas.Slice.Eq.{slice_eq-Decides}
-use lib.Pointwise.{pointwise}
-use lib.Dec.{eqb}
+-- What a run comes to that reads nothing.
+use Rattle.std.proofs.Common.{◌≡◌, ◌⊎◌, ℕ, ◌<◌, ◌≤◌, ◌↔◌, List, length, drop, Option, None, Some, Result, Ok, Err, IfSome, ap, inl, inr, arith, length-drop}
+use Rattle.cluster_replay.specs.declared.fault.InputFault.{InputFault}
+use Rattle.cluster_replay.specs.declared.fault.InputFault.TheVariants.{Bad, BlockFull, RowsFull, OutOfMemory}
 use Rattle.sb_io.specs.Streams.{ReadsCount}
+use Rattle.scalebricks.specs.Run.{outcome_status}
+use Rattle.scalebricks.specs.Status.{code}
+use Rattle.scalebricks.specs.Status.Status.{NoMemory, TooLarge, WriteFailed}
 
 -- a source that stays as it was gave no octet
 pub ReadsCount-same : (left : Option (List ℕ)) (count : ℕ) (P : Type 0) → 0 < count → (P → ⊥) → IfSome left (λ octets. P ↔ ReadsCount octets left count)
@@ -13,16 +13,15 @@ ReadsCount-same None count P some never = tt
 ReadsCount-same (Some xs) count P some never =
     (λ p. absurd (never p), λ read. let same : xs ≡ drop count xs = cc in absurd (omega (arith, read.0, ap length same, length-drop count xs)))
 
--- a list of one element is that element's
-single : {A : Type 0} (xs : List A) (x : A) → length xs ≡ 1 → x ≡ get_or xs 0 x → xs ≡ x ∷ []
-single [] x one is = absurd (omega (arith, one))
-single (y ∷ []) x one is = ap (λ z. z ∷ []) (sym is)
-single (y ∷ z ∷ ys) x one is = absurd (omega (arith, one))
+outcome_status-low : (outcome : Result (List ℕ) InputFault) → outcome_status outcome ≤ 5
+outcome_status-low (Ok report) = omega arith
+outcome_status-low (Err (Bad row)) = omega arith
+outcome_status-low (Err (BlockFull block)) = omega arith
+outcome_status-low (Err (RowsFull block)) = omega arith
+outcome_status-low (Err OutOfMemory) = omega arith
 
--- of one word, the texts are this text's alone exactly where the test says that it is this text
-pub one_text : {A : Type 0} (text_of : A → List ℕ) (words : List A) (word : A) (bytes text : List ℕ) (same : Bool) → length words ≡ 1 → word ≡ get_or words 0 word
-    → bytes ≡ text_of word → same ≡ pointwise eqb bytes text → IsTrue same ↔ (map text_of words ≡ text ∷ [])
-one_text text_of words word bytes text same one is read test =
-    let texts : map text_of words ≡ bytes ∷ [] = ap (map text_of) (single words word one is) ∙ ap (λ b. b ∷ []) (sym read) in
-    let decides = slice_eq-Decides Decides-eqb bytes text same test in
-    (λ yes. texts ∙ ap (λ b. b ∷ []) (decides.0 yes), λ is. let equal : bytes ≡ text = cc in decides.1 equal)
+-- a grind never says that an input is too large
+pub never_too_large : (outcome : Result (List ℕ) InputFault) (status : ℕ) → (status ≡ outcome_status outcome) ⊎ ((status ≡ code WriteFailed) ⊎ (status ≡ code NoMemory)) → status ≡ code TooLarge → ⊥
+never_too_large outcome status (inl own) is = let low = outcome_status-low outcome in omega (arith, own, is, low)
+never_too_large outcome status (inr (inl failed)) is = omega (arith, failed, is)
+never_too_large outcome status (inr (inr lacks)) is = omega (arith, lacks, is)

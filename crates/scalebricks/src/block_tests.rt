@@ -17,7 +17,7 @@ const ROOM: usize = 10_000;
 
 /// Fails where the input ends with another status or prints something else.
 fn answers(
-    rt: &(impl Threads + Wait + Sync + Alloc<A = Global>),
+    rt: &(impl Threads + Sync + Wait + Alloc<A = Global>),
     rows: &str,
     wanted: u8,
     printed: &str,

@@ -1,20 +1,27 @@
-//! The program `scalebricks`: rows on standard input, the paths of packets on standard output.
+//! The program `scalebricks`: rows on standard input, the paths of packets on standard output; or one line about rows that it
+//! makes itself.
 //!
 //! `run` is all that the program does, over any source and sink: its contract says of each status when it comes and what
-//! was written then. `main` gives it standard input and output and the words that the program was called with.
+//! was written then, in the mode that the words ask for. `grind` is the mode without input, as a call. `main` gives `run`
+//! standard input and output and the words that the program was called with.
 //!
-//! Proved: the contract of `run`. Trusted: what standard input and output give and take. Only tested: the line on
+//! Proved: the contracts of `run` and `grind`. Trusted: what standard input and output give and take. Only tested: the line on
 //! standard error, and that memory suffices.
 #![tactic(auto)]
 
 #[cfg(test)]
 mod block_tests;
+mod grinding;
+mod output;
 mod refusal;
+mod replaying;
 mod running;
 mod status;
 #[cfg(test)]
 mod tests;
 
+pub use grind_rows::grind_input;
+pub use grinding::grind;
 pub use running::run;
 use sb_io::{OpenGate, StdSink, StdSource};
 use status::{OUT_OF_MEMORY, WORDS_REFUSED, complaint};

@@ -1,9 +1,9 @@
 ghost use Rattle.std.specs.Prelude.{◌≢◌};
 
-use crate::run;
 use crate::status::{
     DONE, INPUT_LIMIT, INPUT_REFUSED, READ_FAULT, TOO_LARGE, WORDS_REFUSED, WRITE_FAULT,
 };
+use crate::{grind, run};
 use sb_io::{HonestSink, HonestSource, MemSink, MemSource, OpenGate};
 use std::alloc::Global;
 use std::sync::Wait;
@@ -137,21 +137,14 @@ fn faults_and_other_words_end_it(rt: HostRuntime) -> Result<(), Fail> {
 }
 
 #[test]
-fn no_word_and_two_words_are_no_command(rt: HostRuntime) -> Result<(), Fail> {
+fn grinds_the_same_by_any_workers(rt: HostRuntime) -> Result<(), Fail> {
     let alloc = rt.alloc();
-    let mut two = one_word(alloc, "replay")?;
-    two.push(String::from_str(alloc, "replay")?)?;
-    for words in [Vec::new(alloc), two] {
-        let mut input = HonestSource::new(alloc, b"")?;
-        let status = run(
-            &rt,
-            alloc,
-            &words,
-            &mut input,
-            &mut HonestSink::new(),
-            &OpenGate,
-        );
-        assert_eq!(rt; status, WORDS_REFUSED);
+    let line = grind(&rt, alloc, 1, 1)?;
+    let begin = b"grind seed 1 rows 37487 accepted 1000 refused 0 packets 20000 found ";
+    assert!(rt; line.as_slice().starts_with(begin));
+    for workers in [4, 7] {
+        let other = grind(&rt, alloc, 1, workers)?;
+        assert_eq!(rt; other.as_slice(), line.as_slice(), "by {workers} workers");
     }
     Ok(())
 }
@@ -168,7 +161,7 @@ fn one_octet_over_the_limit_is_too_large(rt: HostRuntime) -> Result<(), Fail> {
 }
 
 /// Over a source and a sink that never fail, no fault is told.
-fn run_honestly<R: Threads + Wait + Sync>(
+fn run_honestly<R: Threads + Sync + Wait>(
     rt: &R,
     alloc: Global,
     words: &[String],

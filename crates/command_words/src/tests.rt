@@ -1,0 +1,58 @@
+use crate::{Command, Mode, read_command};
+use std::test::Fail;
+
+/// Words, parted by spaces, and what they ask for: the mode, workers, lanes and seed.
+type Case = (&'static str, Option<(Mode, u8, u8, u32)>);
+
+#[test]
+fn words_ask_for_what_they_say(rt: HostRuntime) -> Result<(), Fail> {
+    let cases: [Case; 24] = [
+        ("replay", Some((Mode::Replay, 4, 2, 1))),
+        ("grind", Some((Mode::Grind, 4, 2, 1))),
+        ("--workers 1 replay", Some((Mode::Replay, 1, 2, 1))),
+        ("replay --workers=64", Some((Mode::Replay, 64, 2, 1))),
+        ("grind --seed 0 --lanes 8", Some((Mode::Grind, 4, 8, 0))),
+        (
+            "--seed 4294967295 grind --lanes=1 --workers 7",
+            Some((Mode::Grind, 7, 1, 4_294_967_295)),
+        ),
+        ("-- replay", Some((Mode::Replay, 4, 2, 1))),
+        ("fly", None),
+        ("REPLAY", None),
+        ("replay replay", None),
+        ("grind replay", None),
+        ("storm", None),
+        ("--help", None),
+        ("replay --help", None),
+        ("--version", None),
+        ("replay --nonsense", None),
+        ("--workers 4", None),
+        ("--workers 0 replay", None),
+        ("--workers 65 replay", None),
+        ("--lanes 9 replay", None),
+        ("--seed 4294967296 replay", None),
+        ("--workers 4 --workers 4 replay", None),
+        ("--workers +4 replay", None),
+        ("--workers 04 replay", None),
+    ];
+    let alloc = rt.alloc();
+    for (words, wanted) in cases {
+        let mut list = Vec::new(alloc);
+        for word in words.split(' ') {
+            list.push(String::from_str(alloc, word)?)?;
+        }
+        let wanted = wanted.map(|(mode, workers, lanes, seed)| Command {
+            mode,
+            workers,
+            lanes,
+            seed,
+        });
+        assert_eq!(rt;
+            read_command(alloc, list.as_slice())?,
+            wanted,
+            "of {words:?}"
+        );
+    }
+    assert_eq!(rt; read_command(alloc, &[])?, None);
+    Ok(())
+}
