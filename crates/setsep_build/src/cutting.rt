@@ -2,6 +2,7 @@ ghost use Rattle.std.specs.Prelude.{◌≡◌, ◌≤◌, IfOk};
 ghost use Rattle.setsep_build.specs.Cut.{IsCut};
 ghost use Rattle.setsep_build.specs.Workers.{worthy_runs};
 
+use block_layout::GROUPS;
 use std::alloc::{AllocError, Global};
 
 /// Neighbouring blocks, whose images one worker makes.
@@ -13,9 +14,9 @@ pub struct Run {
     pub count: u16,
 }
 
-/// How many flows make it worth to start a worker for them. To search the groups of so many takes some ten times as long
-/// as to start a thread.
-pub const FLOWS_WORTH_A_WORKER: usize = 1_024;
+/// How much work makes it worth to start a worker: so many searches of a group or of a flow's place in one. They take some
+/// ten times as long as to start a thread.
+pub const WORTH_A_WORKER: usize = 1_024;
 
 /// So many blocks in so many runs of neighbours.
 pub fn cut(alloc: Global, blocks: u16, runs: u16) -> Result<Vec<Run>, AllocError>
@@ -35,7 +36,7 @@ pub fn cut(alloc: Global, blocks: u16, runs: u16) -> Result<Vec<Run>, AllocError
 }
 
 /// Into how many runs of neighbours it pays to cut the blocks of a table: at most one for each worker and for each block,
-/// and fewer where flows are few.
+/// and fewer where flows and blocks are few.
 pub fn runs_for(flows: usize, blocks: u16, workers: u8) -> u16
     requires some_worker { 1 ≤ workers }
     requires some_block { 1 ≤ blocks }
@@ -43,6 +44,7 @@ pub fn runs_for(flows: usize, blocks: u16, workers: u8) -> u16
     ensures some { 1 ≤ result }
     ensures few { result ≤ workers }
 {
-    let worth = (flows / FLOWS_WORTH_A_WORKER).clamp(1, usize::from(workers));
-    blocks.min(worth as u16)
+    let groups = usize::from(blocks) * usize::from(GROUPS);
+    let worth = flows.saturating_add(groups) / WORTH_A_WORKER;
+    blocks.min(worth.clamp(1, usize::from(workers)) as u16)
 }

@@ -2,7 +2,7 @@ ghost use Rattle.std.specs.Prelude.{◌≤◌, IfOk};
 ghost use Rattle.flow_types.specs.Map.{AreDistinct};
 ghost use Rattle.group_search.specs.Records.{AreHandled};
 
-use crate::{BuildRefused, build, the_limits_are};
+use crate::{BuildRefused, Placed, build, place_all, the_limits_are};
 use block_layout::GROUPS;
 use flow_types::{Flow, FlowKey, Record, Shape};
 use group_search::{BlockImage, GroupRecord, Pair};
@@ -66,6 +66,20 @@ fn gives_each_flow_its_handler(rt: HostRuntime) -> Result<(), Fail> {
     assert_eq!(rt; images.len(), 3);
     for flow in &flows {
         assert_eq!(rt; routed(images.as_slice(), shape, flow.key), Some(flow.node));
+    }
+    Ok(())
+}
+
+#[test]
+fn puts_flows_in_order(rt: HostRuntime) -> Result<(), Fail> {
+    let alloc = rt.alloc();
+    let shape = Shape::new(16, 7).ok_or("16 nodes and 7 blocks")?;
+    let flows = flows(alloc, shape, 5_000, 16, &[], None)?;
+    let all = place_all(&rt, alloc, shape, flows.as_slice())?;
+    assert_eq!(rt; all.len(), 5_000);
+    let rank = |one: &Placed| (one.block, one.bucket, one.entry.key.number());
+    for (one, next) in all.iter().zip(all.iter().skip(1)) {
+        assert!(rt; rank(one) < rank(next));
     }
     Ok(())
 }
