@@ -6,8 +6,8 @@
 //! the record and version of every group, and one hash map of the records of its flows. A turn is kept as a value and not
 //! as octets: what is carried shows nowhere in the output.
 //!
-//! It takes good inputs alone. A bad row or a block past a limit ends it in a panic or, where the bad part isn't looked at,
-//! not at all. Fields in quotes may have no comma, quote or line end.
+//! It takes good inputs alone: a bad row or a block past a limit ends in a panic, or in lines that mean nothing. Fields in
+//! quotes may have no comma, quote or line end.
 
 use std::cmp::Reverse;
 use std::collections::HashMap;

@@ -2,7 +2,6 @@ use Rattle.std.proofs.Common.{◌≡◌, ◌∙◌, ◌<◌, ◌≤◌, ◌%◌,
 use Rattle.std.proofs.lemmas.List.{get_or_default, length-set, append-nil, drop_all}
 use Rattle.flow_types.specs.declared.record.Flow.{Flow}
 use Rattle.flow_types.specs.Size.{Size}
-use Rattle.hash_family.specs.Hash.{place}
 use Rattle.partial_fib.proofs.Handled.{one_more_fits}
 use Rattle.cluster_replay.specs.Dealing.{own_flows}
 use Rattle.cluster_replay.specs.declared.dealing.FibFlows.{FibFlows}
@@ -21,7 +20,7 @@ flows-preserved c =
       | then-is_handled_by+in_ok-push w ↦
           let at : ℕ = w.from.result in
           let flow : Flow = get_or flows i _ in
-          let is_at : at ≡ (place size.blocks flow.key).block % size.nodes = w.from.ensures ∙ w.owner-owner.ensures.value ∙ ap (λ p. p.block % size.nodes) w.place.ensures.value in
+          let is_at = w.from.ensures ∙ w.owner-owner.ensures.value ∙ ap (λ p. p.block % size.nodes) w.place.ensures.value in
           let in_range : at < length found = omega (arith, c.flows.invariant.one_each, w.owner-owner.ensures.below, w.from.ensures) in
           let read : w.index_mut.result.now ≡ get_or found at [] = w.index_mut.ensures.value ∙ get_or_default found at _ [] in_range in
           let whole : w.push.new.self ≡ get_or found at [] ++ flow ∷ [] = w.in_ok-push.ensures.ok ∙ ap (λ (l : List Flow). l ++ flow ∷ []) read in
