@@ -7,7 +7,6 @@ use hash_family::mix;
 const DRAW_STEP: u64 = 0x9E37_79B9_7F4A_7C15;
 
 /// The draw of this number, from 0: a random number of 64 bits.
-#[tactic(auto, using(crate::proofs::Drawn::drawn), unfolding(crate::specs::Draws::draw))]
 pub fn draw(seed: u32, number: u32) -> u64
     ensures { result ≡ draw seed number }
 {
