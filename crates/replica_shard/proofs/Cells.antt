@@ -74,13 +74,6 @@ module _ (size : Size) (owner : ℕ) (choices : List (List ℕ)) (cells : Opened
     image_is : image_in store block ≡ Some image
     image_is = rw (owned_block size owner block within owned) (slice_get-get_or cells.images (block / size.nodes) no_image block_low)
 
-    -- the choices that are kept at its place are those of its image
-    pub choices_at : (mine : List ℕ) → mine ≡ get_or choices (block / size.nodes) mine → choices_shown (image_in store block) ≡ mine
-    choices_at mine is =
-        ap choices_shown image_is
-        ∙ sym (is ∙ ap (λ (all : List (List ℕ)). get_or all (block / size.nodes) mine) are.choices_are
-        ∙ get_or-map (λ (i : Image). i.choices) cells.images (block / size.nodes) no_image mine block_low)
-
     module _ (group : ℕ) (low : group < 64) where
       abbrev at : Home
       at = record { block = block; group = group }

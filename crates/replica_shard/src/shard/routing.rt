@@ -14,7 +14,7 @@ ghost use Rattle.replica_shard.specs.Store.{shard_state_of};
 use crate::routing::Route;
 use crate::shard::{Shard, ShardReader, ShardWriter};
 use flow_types::FlowKey;
-use group_cell::Changing;
+use group_cell::{Changing, Look};
 use hash_family::{Place, place};
 
 impl Shard {
@@ -95,13 +95,8 @@ impl Shard {
         ensures answer { result ≡ route_in_state (shard_state_of (shard_taken self.now writer.old)) at key }
     {
         let (block, group) = self.cell(at);
-        let look = self
-            .table
-            .look_own(&mut writer.seat, block, group, key);
-        Route {
-            version: look.version,
-            node: look.node,
-        }
+        let Look { version, node } = self.table.look_own(&mut writer.seat, block, group, key);
+        Route { version, node }
     }
 
     /// The block and the group of a key, whose block belongs to the owner. It takes no memory.
