@@ -205,16 +205,6 @@ module _ (size : Size) (flows : List Flow) (owners : List SenderState) (stores :
             (is_reply ∙ ap (λ (s : ShardState). taking_reply s.taken message.turn) shard_same)
             (after_table (node_state_of node) message reply) (ap (λ (n : NodeState). after_table n message reply) same_node))
 
-        pub table_answers : {E : Type 0} (result : Result Reply E) (new : NodeStore)
-            → IfOk result (λ reply. reply ≡ taking_reply (shard_in (node_state_of node) message.owner).taken message.turn)
-            → IfOk result (λ reply. node_state_of new ≡ after_table (node_state_of node) message reply) → OnErr result (new ≡ node) → Answers Table result new
-        table_answers {E = E} result new says takes same =
-            answered Table result new
-            (λ reply is.
-            table_carried reply new (subst (λ (r : Result Reply E). IfOk r (λ reply. reply ≡ taking_reply (shard_in (node_state_of node) message.owner).taken message.turn)) is says)
-            (subst (λ (r : Result Reply E). IfOk r (λ reply. node_state_of new ≡ after_table (node_state_of node) message reply)) is takes))
-            same
-
       -- ---- to a FIB
 
       module _ (message : FibMessage) (said : IsFibMessageOf size number owner flows (changes_in sender) turn message) where

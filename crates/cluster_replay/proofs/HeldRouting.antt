@@ -11,7 +11,7 @@ use Rattle.hash_family.specs.declared.bucket.Place.{Place}
 use Rattle.group_search.specs.Home.{Home, home}
 use Rattle.delta_codec.specs.Values.{IsKeyValue}
 use Rattle.replica_shard.specs.Shard.{ShardState, home_in_state, route_in_state}
-use Rattle.replica_shard.specs.Store.{ShardStore, shard_state_of}
+use Rattle.replica_shard.specs.Store.{shard_state_of}
 use Rattle.replica_shard.specs.declared.routing.Route.{Route}
 use Rattle.partial_fib.specs.Fib.{FibState}
 use Rattle.partial_fib.specs.Store.{FibStore, state_of}
@@ -19,7 +19,7 @@ use Rattle.replay_model.specs.Packets.{answer_of, packet_reply}
 use Rattle.replay_model.specs.declared.reply.Reply.TheVariants.{Nowhere}
 use Rattle.turn_sender.specs.Sender.{SenderState}
 use Rattle.cluster_replay.specs.Cluster.{IsCluster, IsFibOf, IsTableOf, NodeState, NodeStore, RunState, cluster_of, fib_in, journal_in, no_node, node_state_of, owners_in, shard_in}
-use Rattle.cluster_replay.proofs.Answered.{fib_here, shard_here}
+use Rattle.cluster_replay.proofs.Answered.{fib_here}
 use Rattle.cluster_replay.proofs.Held.{held, node_here, node_there}
 use Rattle.cluster_replay.proofs.Routing.{answered, block_low, fib_is, goes_nowhere, home_there, node_low, owner_has, table_is}
 
@@ -55,94 +55,96 @@ module _ (size : Size) (flows : List Flow) (owners : List SenderState) (stores :
         let many = ap (λ (n : NodeState). length n.shards) same_node in
         omega (arith, own_is, has, one_each, many, length-map node.shards shard_state_of)
 
-    module _ (shard : ShardStore) (shard_is : shard ≡ get_or node.shards owner shard) where
-      same_shard : shard_state_of shard ≡ shard_in (get_or nodes ingress no_node) own
-      same_shard = shard_here node owner shard shard_index shard_is ∙ ap (shard_in (node_state_of node)) own_is ∙ ap (λ (n : NodeState). shard_in n own) same_node
+    abbrev shard : ShardState
+    shard = shard_in (node_state_of node) owner
 
-      stands : IsTableOf size own flows (journal_in owners own) (shard_in (get_or nodes ingress no_node) own)
-      stands = table_is size flows owners nodes is key value ingress low
+    same_shard : shard ≡ shard_in (get_or nodes ingress no_node) own
+    same_shard = ap (shard_in (node_state_of node)) own_is ∙ ap (λ (n : NodeState). shard_in n own) same_node
 
-      shard_size : shard.size ≡ size
-      shard_size = ap (λ (s : ShardState). s.size) (same_shard ∙ stands.stands)
+    stands : IsTableOf size own flows (journal_in owners own) (shard_in (get_or nodes ingress no_node) own)
+    stands = table_is size flows owners nodes is key value ingress low
 
-      pub owned : at.block % shard.size.nodes ≡ shard.owner
-      owned = ap (λ (s : Size). at.block % s.nodes) shard_size ∙ sym owner_said ∙ own_is ∙ sym (ap (λ (s : ShardState). s.owner) (same_shard ∙ stands.stands))
+    shard_size : shard.size ≡ size
+    shard_size = ap (λ (s : ShardState). s.size) (same_shard ∙ stands.stands)
 
-      pub within : at.block < shard.size.blocks
-      within =
-          subst (λ (s : Size). at.block < s.blocks) (sym shard_size)
-          (subst (λ (p : Place). p.block < size.blocks) (sym at_is) (block_low size flows owners nodes is key value))
+    pub owned : at.block % shard.size.nodes ≡ shard.owner
+    owned = ap (λ (s : Size). at.block % s.nodes) shard_size ∙ sym owner_said ∙ own_is ∙ sym (ap (λ (s : ShardState). s.owner) (same_shard ∙ stands.stands))
 
-      routes : route_in_state (shard_state_of shard) at key ≡ route_in_state (shard_in (get_or nodes ingress no_node) own) (place size.blocks key) key
-      routes = ap (λ (s : ShardState). route_in_state s at key) same_shard ∙ ap (λ (p : Place). route_in_state (shard_in (get_or nodes ingress no_node) own) p key) at_is
+    pub within : at.block < shard.size.blocks
+    within =
+        subst (λ (s : Size). at.block < s.blocks) (sym shard_size)
+        (subst (λ (p : Place). p.block < size.blocks) (sym at_is) (block_low size flows owners nodes is key value))
 
-      module _ (route : Route) (route_is : route ≡ route_in_state (shard_state_of shard) at key) where
-        whole : route ≡ route_in_state (shard_in (get_or nodes ingress no_node) own) (place size.blocks key) key
-        whole = route_is ∙ routes
+    routes : route_in_state shard at key ≡ route_in_state (shard_in (get_or nodes ingress no_node) own) (place size.blocks key) key
+    routes = ap (λ (s : ShardState). route_in_state s at key) same_shard ∙ ap (λ (p : Place). route_in_state (shard_in (get_or nodes ingress no_node) own) p key) at_is
 
-        pub nowhere : route.node ≡ None → Nowhere route.version ≡ packet_reply run.cluster.opened run.cluster.journals run.cluster.nodes ingress key
-        unfolding cluster_of
-        nowhere none =
-            subst (λ (r : RunState). Nowhere route.version ≡ packet_reply r.cluster.opened r.cluster.journals r.cluster.nodes ingress key) view
-            (ap (λ (r : Route). Nowhere r.version) whole ∙ goes_nowhere size flows owners nodes is key value ingress low (sym (ap (λ (r : Route). r.node) whole) ∙ none))
+    module _ (route : Route) (route_is : route ≡ route_in_state shard at key) where
+      whole : route ≡ route_in_state (shard_in (get_or nodes ingress no_node) own) (place size.blocks key) key
+      whole = route_is ∙ routes
 
-        module _ (to : ℕ) (sent : route.node ≡ Some to) where
-          sent_there : (route_in_state (shard_in (get_or nodes ingress no_node) own) (place size.blocks key) key).node ≡ Some to
-          sent_there = sym (ap (λ (r : Route). r.node) whole) ∙ sent
+      pub nowhere : route.node ≡ None → Nowhere route.version ≡ packet_reply run.cluster.opened run.cluster.journals run.cluster.nodes ingress key
+      unfolding cluster_of
+      nowhere none =
+          subst (λ (r : RunState). Nowhere route.version ≡ packet_reply r.cluster.opened r.cluster.journals r.cluster.nodes ingress key) view
+          (ap (λ (r : Route). Nowhere r.version) whole ∙ goes_nowhere size flows owners nodes is key value ingress low (sym (ap (λ (r : Route). r.node) whole) ∙ none))
 
-          to_low : to < size.nodes
-          to_low = node_low size flows owners nodes is key value ingress low to sent_there
+      module _ (to : ℕ) (sent : route.node ≡ Some to) where
+        sent_there : (route_in_state (shard_in (get_or nodes ingress no_node) own) (place size.blocks key) key).node ≡ Some to
+        sent_there = sym (ap (λ (r : Route). r.node) whole) ∙ sent
 
-          pub to_index : to < length stores
-          to_index = omega (arith, to_low, is.one_node_each, length-map stores node_state_of)
+        to_low : to < size.nodes
+        to_low = node_low size flows owners nodes is key value ingress low to sent_there
 
-          module _ (target : NodeStore) (target_is : target ≡ get_or stores to target) where
-            same_target : node_state_of target ≡ get_or nodes to no_node
-            same_target = node_here size flows owners stores is lacks run to to_low target target_is
+        pub to_index : to < length stores
+        to_index = omega (arith, to_low, is.one_node_each, length-map stores node_state_of)
 
-            pub fib_index : owner < length target.fibs
-            fib_index =
-                let one_each = (is.each_node to to_low).one_fib_each in
-                let many = ap (λ (n : NodeState). length n.fibs) same_target in
-                omega (arith, own_is, has, one_each, many, length-map target.fibs state_of)
+        module _ (target : NodeStore) (target_is : target ≡ get_or stores to target) where
+          same_target : node_state_of target ≡ get_or nodes to no_node
+          same_target = node_here size flows owners stores is lacks run to to_low target target_is
 
-            module _ (fib : FibStore) (fib_at : fib ≡ get_or target.fibs owner fib) (block group : ℕ)
-                (home_said : (let at_home : Home = record { block = block; group = group } in at_home) ≡ home_in_state (shard_state_of shard) at) where
-              same_fib : state_of fib ≡ fib_in (get_or nodes to no_node) own
-              same_fib = fib_here target owner fib fib_index fib_at ∙ ap (fib_in (node_state_of target)) own_is ∙ ap (λ (n : NodeState). fib_in n own) same_target
+          pub fib_index : owner < length target.fibs
+          fib_index =
+              let one_each = (is.each_node to to_low).one_fib_each in
+              let many = ap (λ (n : NodeState). length n.fibs) same_target in
+              omega (arith, own_is, has, one_each, many, length-map target.fibs state_of)
 
-              fib_stands : IsFibOf size to own flows (journal_in owners own) (fib_in (get_or nodes to no_node) own)
-              fib_stands = fib_is size flows owners nodes is key value ingress low to sent_there
+          module _ (fib : FibStore) (fib_at : fib ≡ get_or target.fibs owner fib) (block group : ℕ)
+              (home_said : (let at_home : Home = record { block = block; group = group } in at_home) ≡ home_in_state shard at) where
+            same_fib : state_of fib ≡ fib_in (get_or nodes to no_node) own
+            same_fib = fib_here target owner fib fib_index fib_at ∙ ap (fib_in (node_state_of target)) own_is ∙ ap (λ (n : NodeState). fib_in n own) same_target
 
-              fib_size : fib.size ≡ size
-              fib_size = ap (λ (f : FibState). f.size) (same_fib ∙ fib_stands.stands)
+            fib_stands : IsFibOf size to own flows (journal_in owners own) (fib_in (get_or nodes to no_node) own)
+            fib_stands = fib_is size flows owners nodes is key value ingress low to sent_there
 
-              block_is : block ≡ at.block
-              block_is = ap (λ (h : Home). h.block) home_said
+            fib_size : fib.size ≡ size
+            fib_size = ap (λ (f : FibState). f.size) (same_fib ∙ fib_stands.stands)
 
-              pub find_within : block < fib.size.blocks
-              find_within =
-                  subst (λ (s : Size). block < s.blocks) (sym fib_size)
-                  (subst (λ (b : ℕ). b < size.blocks) (sym (block_is ∙ ap (λ (p : Place). p.block) at_is)) (block_low size flows owners nodes is key value))
+            block_is : block ≡ at.block
+            block_is = ap (λ (h : Home). h.block) home_said
 
-              pub find_owned : block % fib.size.nodes ≡ fib.owner
-              find_owned =
-                  ap (λ (s : Size). block % s.nodes) fib_size ∙ ap (λ (b : ℕ). b % size.nodes) block_is ∙ sym owner_said ∙ own_is
-                  ∙ sym (ap (λ (f : FibState). f.owner) (same_fib ∙ fib_stands.stands))
+            pub find_within : block < fib.size.blocks
+            find_within =
+                subst (λ (s : Size). block < s.blocks) (sym fib_size)
+                (subst (λ (b : ℕ). b < size.blocks) (sym (block_is ∙ ap (λ (p : Place). p.block) at_is)) (block_low size flows owners nodes is key value))
 
-              at_home : (let there : Home = record { block = block; group = group } in there) ≡ home size.blocks flows key
-              at_home =
-                  home_said ∙ ap (λ (s : ShardState). home_in_state s at) same_shard ∙ ap (home_in_state (shard_in (get_or nodes ingress no_node) own)) at_is
-                  ∙ home_there size flows owners nodes is key value ingress low
+            pub find_owned : block % fib.size.nodes ≡ fib.owner
+            find_owned =
+                ap (λ (s : Size). block % s.nodes) fib_size ∙ ap (λ (b : ℕ). b % size.nodes) block_is ∙ sym owner_said ∙ own_is
+                ∙ sym (ap (λ (f : FibState). f.owner) (same_fib ∙ fib_stands.stands))
 
-              pub reply : (version : ℕ) (info : Option Record) → version ≡ (state_of fib).versions (record { block = block; group = group }) → info ≡ (state_of fib).records (number key)
-                  → answer_of to route.version version info ≡ packet_reply run.cluster.opened run.cluster.journals run.cluster.nodes ingress key
-              unfolding cluster_of
-              reply version info version_is info_is =
-                  subst (λ (r : RunState). answer_of to route.version version info ≡ packet_reply r.cluster.opened r.cluster.journals r.cluster.nodes ingress key) view
-                  (rw (
-                    version_is ∙ ap (state_of fib).versions at_home ∙ ap (λ (f : FibState). f.versions (home size.blocks flows key)) same_fib,
-                    info_is ∙ ap (λ (f : FibState). f.records (number key)) same_fib,
-                  )
-                  (ap (λ (r : Route). answer_of to r.version ((fib_in (get_or nodes to no_node) own).versions (home size.blocks flows key)) ((fib_in (get_or nodes to no_node) own).records (number key))) whole
-                  ∙ answered size flows owners nodes is key value ingress low to sent_there))
+            at_home : (let there : Home = record { block = block; group = group } in there) ≡ home size.blocks flows key
+            at_home =
+                home_said ∙ ap (λ (s : ShardState). home_in_state s at) same_shard ∙ ap (home_in_state (shard_in (get_or nodes ingress no_node) own)) at_is
+                ∙ home_there size flows owners nodes is key value ingress low
+
+            pub reply : (version : ℕ) (info : Option Record) → version ≡ (state_of fib).versions (record { block = block; group = group }) → info ≡ (state_of fib).records (number key)
+                → answer_of to route.version version info ≡ packet_reply run.cluster.opened run.cluster.journals run.cluster.nodes ingress key
+            unfolding cluster_of
+            reply version info version_is info_is =
+                subst (λ (r : RunState). answer_of to route.version version info ≡ packet_reply r.cluster.opened r.cluster.journals r.cluster.nodes ingress key) view
+                (rw (
+                  version_is ∙ ap (state_of fib).versions at_home ∙ ap (λ (f : FibState). f.versions (home size.blocks flows key)) same_fib,
+                  info_is ∙ ap (λ (f : FibState). f.records (number key)) same_fib,
+                )
+                (ap (λ (r : Route). answer_of to r.version ((fib_in (get_or nodes to no_node) own).versions (home size.blocks flows key)) ((fib_in (get_or nodes to no_node) own).records (number key))) whole
+                ∙ answered size flows owners nodes is key value ingress low to sent_there))

@@ -116,13 +116,13 @@ module _ (size : Size) (flows : List Flow) (owners : List SenderState) (stores :
             same_shard : shard_state_of shard ≡ shard_in (get_or nodes number no_node) owner
             same_shard = shard_here node owner shard shard_index shard_is ∙ ap (λ (n : NodeState). shard_in n owner) same_node
 
-            pub shard_taken : shard.taken ≡ turns_taken Table run.cluster.nodes number owner
+            pub shard_taken : length shard.list ≡ turns_taken Table run.cluster.nodes number owner
             unfolding cluster_of
             shard_taken =
                 ap (λ (s : ShardState). s.taken) same_shard ∙ sym (table_turns_is size flows owners nodes is number low owner low_owner)
                 ∙ ap (λ (r : RunState). table_turns r.cluster.nodes number owner) view
 
-            pub shard_within : shard.taken ≤ length (journal_of run.cluster.journals owner)
+            pub shard_within : length shard.list ≤ length (journal_of run.cluster.journals owner)
             shard_within = omega (arith, ap (λ (s : ShardState). s.taken) same_shard, ((is.each_node number low).tables owner has).sent, ap length journal_there)
 
           module _ (fib : FibStore) (fib_is : fib ≡ get_or node.fibs owner fib) where

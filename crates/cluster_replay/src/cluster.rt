@@ -99,15 +99,16 @@ impl Cluster {
     }
 
     /// The reply to a packet: its ingress sends it on by its table, and the node that it comes to answers by its FIB.
-    fn send(&self, ingress: u8, key: FlowKey) -> Reply
-        requires { ingress < self.now.cluster.opened.size.nodes }
-        ensures { result ≡ packet_reply self.now.cluster.opened self.now.cluster.journals self.now.cluster.nodes ingress key }
+    fn send(&mut self, ingress: u8, key: FlowKey) -> Reply
+        requires { ingress < self.old.cluster.opened.size.nodes }
+        ensures reply { result ≡ packet_reply self.old.cluster.opened self.old.cluster.journals self.old.cluster.nodes ingress key }
+        ensures kept { self.new ≡ self.old }
     {
         let at = place(self.shape, key);
         let owner = usize::from(self.shape.owner(at.block));
-        let shard = &self.nodes[usize::from(ingress)].shards[owner];
-        let (block, group) = shard.home_at(at);
-        let route = shard.route_at(at, key);
+        let sender = &mut self.nodes[usize::from(ingress)];
+        let (block, group) = sender.home_at(owner, at);
+        let route = sender.route_at(owner, at, key);
         let Some(node) = route.node else {
             return Reply::Nowhere {
                 seen: route.version,
@@ -132,21 +133,33 @@ impl Cluster {
         if turn > sender.turns() {
             return Ok(Reply::Unsent);
         }
+        self.deliver(node, owner, turn, part)
+    }
+
+    /// Delivers the message of a turn to a node's table or to its FIB.
+    fn deliver(&mut self, node: u8, owner: u8, turn: u32, part: Part) -> Result<Reply, OutOfMemory>
+        requires node { node < self.old.cluster.opened.size.nodes }
+        requires owner { owner < owners_in self.old.cluster.opened.size }
+        requires first { 1 ≤ turn }
+        requires sent { turn ≤ length (journal_of self.old.cluster.journals owner) }
+        ensures reply { IfOk result (λ reply. reply ≡ carry_reply (length (journal_of self.old.cluster.journals owner)) (turns_taken part self.old.cluster.nodes node owner) turn) }
+        ensures taken { OnOk result (self.new ≡ with_nodes self.old (after_carry self.old.cluster.journals self.old.cluster.nodes node owner turn part)) }
+        ensures refused { OnErr result (self.new ≡ self.old) }
+    {
         match part {
-            Part::Table => self.carry_table(node, owner, turn),
+            Part::Table => Ok(self.carry_table(node, owner, turn)),
             Part::Fib => self.carry_fib(node, owner, turn),
         }
     }
 
     /// Delivers the message of a turn to a node's table.
-    fn carry_table(&mut self, node: u8, owner: u8, turn: u32) -> Result<Reply, OutOfMemory>
+    fn carry_table(&mut self, node: u8, owner: u8, turn: u32) -> Reply
         requires node { node < self.old.cluster.opened.size.nodes }
         requires owner { owner < owners_in self.old.cluster.opened.size }
         requires first { 1 ≤ turn }
         requires sent { turn ≤ length (journal_of self.old.cluster.journals owner) }
-        ensures reply { IfOk result (λ reply. reply ≡ carry_reply (length (journal_of self.old.cluster.journals owner)) (turns_taken of_table self.old.cluster.nodes node owner) turn) }
-        ensures taken { OnOk result (self.new ≡ with_nodes self.old (after_carry self.old.cluster.journals self.old.cluster.nodes node owner turn of_table)) }
-        ensures refused { OnErr result (self.new ≡ self.old) }
+        ensures reply { result ≡ carry_reply (length (journal_of self.old.cluster.journals owner)) (turns_taken of_table self.old.cluster.nodes node owner) turn }
+        ensures taken { self.new ≡ with_nodes self.old (after_carry self.old.cluster.journals self.old.cluster.nodes node owner turn of_table) }
     {
         let message = self.owners[usize::from(owner)].table_message(turn);
         self.nodes[usize::from(node)].take_table(&message)
@@ -182,34 +195,21 @@ impl Cluster {
         ensures { OnOk result (self.new ≡ with_nodes self.old (slice_set self.old.cluster.nodes node (all_sent self.old.cluster.journals))) }
     {
         'owners: for owner in 0..self.owner_count() {
-            self.bring_up_table(node, owner)?;
-            self.bring_up_fib(node, owner)?;
+            self.bring_up_part(node, owner, Part::Table)?;
+            self.bring_up_part(node, owner, Part::Fib)?;
         }
         Ok(())
     }
 
-    /// Delivers an owner's messages that a node's table is missing.
-    fn bring_up_table(&mut self, node: u8, owner: u8) -> Result<(), OutOfMemory>
+    /// Delivers an owner's messages that a node's table or its FIB is missing.
+    fn bring_up_part(&mut self, node: u8, owner: u8, part: Part) -> Result<(), OutOfMemory>
         requires node { node < self.old.cluster.opened.size.nodes }
         requires owner { owner < owners_in self.old.cluster.opened.size }
-        ensures { OnOk result (self.new ≡ with_turns of_table node owner self.old) }
+        ensures { OnOk result (self.new ≡ with_turns part node owner self.old) }
     {
-        let (taken, sent) = (self.table_turns(node, owner), self.sent_turns(owner));
+        let (taken, sent) = (self.turns(node, owner, part), self.sent_turns(owner));
         'turns: for turn in taken..sent {
-            self.carry_table(node, owner, turn + 1)?;
-        }
-        Ok(())
-    }
-
-    /// Delivers an owner's messages that a node's FIB is missing.
-    fn bring_up_fib(&mut self, node: u8, owner: u8) -> Result<(), OutOfMemory>
-        requires node { node < self.old.cluster.opened.size.nodes }
-        requires owner { owner < owners_in self.old.cluster.opened.size }
-        ensures { OnOk result (self.new ≡ with_turns of_fib node owner self.old) }
-    {
-        let (taken, sent) = (self.fib_turns(node, owner), self.sent_turns(owner));
-        'turns: for turn in taken..sent {
-            self.carry_fib(node, owner, turn + 1)?;
+            self.deliver(node, owner, turn + 1, part)?;
         }
         Ok(())
     }
@@ -238,26 +238,19 @@ impl Cluster {
         self.owners[usize::from(owner)].turns()
     }
 
-    /// How many of an owner's turns a node's table has taken.
-    fn table_turns(&self, node: u8, owner: u8) -> u32
+    /// How many of an owner's turns a node's table or its FIB has taken.
+    fn turns(&self, node: u8, owner: u8, part: Part) -> u32
         requires node { node < self.now.cluster.opened.size.nodes }
         requires owner { owner < owners_in self.now.cluster.opened.size }
-        ensures taken { result ≡ turns_taken of_table self.now.cluster.nodes node owner }
+        ensures taken { result ≡ turns_taken part self.now.cluster.nodes node owner }
         ensures sent { result ≤ length (journal_of self.now.cluster.journals owner) }
         ensures sized { IsSized self.now }
     {
-        self.nodes[usize::from(node)].shards[usize::from(owner)].taken()
-    }
-
-    /// How many of an owner's turns a node's FIB has taken.
-    fn fib_turns(&self, node: u8, owner: u8) -> u32
-        requires node { node < self.now.cluster.opened.size.nodes }
-        requires owner { owner < owners_in self.now.cluster.opened.size }
-        ensures taken { result ≡ turns_taken of_fib self.now.cluster.nodes node owner }
-        ensures sent { result ≤ length (journal_of self.now.cluster.journals owner) }
-        ensures sized { IsSized self.now }
-    {
-        self.nodes[usize::from(node)].fibs[usize::from(owner)].taken()
+        let node = &self.nodes[usize::from(node)];
+        match part {
+            Part::Table => node.tables[usize::from(owner)].taken(),
+            Part::Fib => node.fibs[usize::from(owner)].taken(),
+        }
     }
 }
 

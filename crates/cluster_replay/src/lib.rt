@@ -18,6 +18,7 @@ mod law;
 mod node;
 mod opening;
 mod replaying;
+mod table;
 
 pub use cluster::Cluster;
 pub use fault::InputFault;

@@ -1,31 +1,30 @@
-ghost use Rattle.std.specs.Prelude.{◌≡◌, ◌+◌, ◌<◌, ◌≤◌, [], IfOk, OnErr, List, length, map};
+ghost use Rattle.std.specs.Prelude.{◌≡◌, ◌+◌, ◌%◌, ◌<◌, ◌≤◌, [], IfOk, OnErr, length, map};
 ghost use Rattle.flow_types.specs.Map.{AreDistinct};
-ghost use Rattle.flow_types.specs.declared.record.Flow.{Flow};
-ghost use Rattle.group_search.specs.Build.{IsBuild};
 ghost use Rattle.partial_fib.specs.Fib.{fib_after};
 ghost use Rattle.partial_fib.specs.Store.{state_of};
 ghost use Rattle.partial_fib.specs.Message.{FibMessageFits};
 ghost use Rattle.group_search.specs.Canon.{rows_in};
 ghost use Rattle.replica_shard.specs.Message.{TableMessageFits};
-ghost use Rattle.replica_shard.specs.Shard.{free_rows, shard_after};
+ghost use Rattle.replica_shard.specs.Shard.{free_rows, home_in_state, route_in_state, shard_after};
 ghost use Rattle.replica_shard.specs.Store.{shard_state_of};
-ghost use Rattle.cluster_replay.specs.Cluster.{AreOpened, IsNodeOf, after_fib, after_table, fib_in, node_state_of, shard_in, taking_reply};
+ghost use Rattle.cluster_replay.specs.Cluster.{AreOpened, IsNodeOf, after_fib, after_table, fib_in, node_state_of, owners_in, shard_in, taking_reply};
 
 use crate::dealing::deal;
+use crate::table::Table;
 use delta_codec::{FibMessage, TableMessage};
-use flow_types::{Flow, Shape};
-use group_search::BlockImage;
+use flow_types::{Flow, FlowKey, Shape};
+use hash_family::Place;
 use out_of_memory::OutOfMemory;
 use partial_fib::{Fib, FibRefused};
 use replay_model::Reply;
-use replica_shard::{PlainShard, ShardRefused};
+use replica_shard::{Route, ShardPlan, ShardRefused};
 use std::alloc::Global;
 use std::marker::Model;
 
 /// One node of a cluster: its table and its FIB of each owner that has a block, by the owner's number.
 #[derive(Drop)]
 pub(crate) struct Node {
-    pub(crate) shards: Vec<PlainShard>,
+    pub(crate) tables: Vec<Table>,
     pub(crate) fibs: Vec<Fib>,
 }
 
@@ -34,7 +33,7 @@ impl Model for Node {
 
     ghost Value = { NodeStore };
 
-    ghost view = { λ n. record { shards = n.shards.items; fibs = n.fibs.items } };
+    ghost view = { λ n. record { shards = n.tables.items; fibs = n.fibs.items } };
 }
 
 impl Node {
@@ -44,39 +43,59 @@ impl Node {
         shape: Shape,
         number: u8,
         flows: &[Flow],
-        images: &[BlockImage],
+        plans: &[ShardPlan],
     ) -> Result<Node, OutOfMemory>
         requires node { number < shape.nodes }
         requires distinct { AreDistinct flows.now }
-        requires built { IsBuild shape flows.now images.now }
+        requires planned { AreOpened (owners_in shape) (λ owner. shard_after shape owner flows.now []) (map shard_state_of plans.now) }
         ensures { IfOk result (λ node. IsNodeOf shape flows.now (λ owner. []) number (node_state_of node)) }
     {
         let owners = shape.nodes().min(shape.blocks()) as u8;
         Ok(Node {
-            shards: shards(alloc, shape, owners, images)?,
+            tables: tables(alloc, plans)?,
             fibs: fibs(alloc, shape, number, owners, flows)?,
         })
     }
 
     /// Takes the message of a turn into the table of its owner. The table's room is enough for it where it is the next turn.
-    pub(crate) fn take_table(&mut self, message: &TableMessage) -> Result<Reply, OutOfMemory>
+    pub(crate) fn take_table(&mut self, message: &TableMessage) -> Reply
         requires there { message.now.owner < length self.old.shards }
         requires own { (shard_in (node_state_of self.old) message.now.owner).owner ≡ message.now.owner }
         requires fits { TableMessageFits (shard_in (node_state_of self.old) message.now.owner).size message.now }
         requires room { message.now.turn ≡ (shard_in (node_state_of self.old) message.now.owner).taken + 1 →
             rows_in message.now.content ≤ free_rows (shard_in (node_state_of self.old) message.now.owner) message.now.block message.now.group }
-        ensures reply { IfOk result (λ reply. reply ≡ taking_reply (shard_in (node_state_of self.old) message.now.owner).taken message.now.turn) }
-        ensures taken { IfOk result (λ reply. node_state_of self.new ≡ after_table (node_state_of self.old) message.now reply) }
-        ensures refused { OnErr result (self.new ≡ self.old) }
+        ensures reply { result ≡ taking_reply (shard_in (node_state_of self.old) message.now.owner).taken message.now.turn }
+        ensures taken { node_state_of self.new ≡ after_table (node_state_of self.old) message.now result }
     {
-        match self.shards[usize::from(message.owner)].apply(message) {
-            Ok(()) => Ok(Reply::Applied),
-            Err(ShardRefused::Repeat { have }) => Ok(Reply::RepeatHave { have }),
-            Err(ShardRefused::Early { have }) => Ok(Reply::EarlyHave { have }),
-            Err(ShardRefused::OutOfMemory) => Err(OutOfMemory),
+        match self.tables[usize::from(message.owner)].apply(message) {
+            Ok(()) => Reply::Applied,
+            Err(ShardRefused::Repeat { have }) => Reply::RepeatHave { have },
+            Err(ShardRefused::Early { have }) => Reply::EarlyHave { have },
             Err(ShardRefused::Foreign { .. }) => unreachable!(),
             Err(ShardRefused::RowsFull { .. }) => unreachable!(),
         }
+    }
+
+    /// The block and the group of a key whose place is known, by the table of the owner of the place's block.
+    pub(crate) fn home_at(&self, owner: usize, at: Place) -> (u16, u8)
+        requires there { owner < length self.now.shards }
+        requires owned { at.block % (shard_in (node_state_of self.now) owner).size.nodes ≡ (shard_in (node_state_of self.now) owner).owner }
+        requires within { at.block < (shard_in (node_state_of self.now) owner).size.blocks }
+        ensures home { record { block = result.0; group = result.1 } ≡ home_in_state (shard_in (node_state_of self.now) owner) at }
+        ensures in_block { result.1 < 64 }
+    {
+        self.tables[owner].home_at(at)
+    }
+
+    /// Where the table of the owner of the place's block sends a key whose place is known. Nothing changes.
+    pub(crate) fn route_at(&mut self, owner: usize, at: Place, key: FlowKey) -> Route
+        requires there { owner < length self.old.shards }
+        requires owned { at.block % (shard_in (node_state_of self.old) owner).size.nodes ≡ (shard_in (node_state_of self.old) owner).owner }
+        requires within { at.block < (shard_in (node_state_of self.old) owner).size.blocks }
+        ensures value { result ≡ route_in_state (shard_in (node_state_of self.old) owner) at key }
+        ensures kept { self.new ≡ self.old }
+    {
+        self.tables[owner].route_at(at, key)
     }
 
     /// Takes the message of a turn into the FIB of its owner.
@@ -98,23 +117,15 @@ impl Node {
     }
 }
 
-/// A table for each of so many owners.
-fn shards(
-    alloc: Global,
-    shape: Shape,
-    owners: u8,
-    images: &[BlockImage],
-) -> Result<Vec<PlainShard>, OutOfMemory>
-    requires nodes { owners ≤ shape.nodes }
-    requires blocks { owners ≤ shape.blocks }
-    requires one_each { length images.now ≡ shape.blocks }
-    ensures { IfOk result (λ shards. (flows : List Flow) → IsBuild shape flows images.now → AreOpened owners (λ owner. shard_after shape owner flows []) (map shard_state_of shards.items)) }
+/// A table as each of these plans has it.
+fn tables(alloc: Global, plans: &[ShardPlan]) -> Result<Vec<Table>, OutOfMemory>
+    ensures { IfOk result (λ tables. tables.items ≡ plans.now) }
 {
-    let mut shards = Vec::new(alloc);
-    'owners: for owner in 0..owners {
-        shards.push(PlainShard::open(alloc, shape, owner, images)?)?;
+    let mut tables = Vec::new(alloc);
+    'plans: for plan in plans {
+        tables.push(Table::open(alloc, plan)?)?;
     }
-    Ok(shards)
+    Ok(tables)
 }
 
 /// The node's FIB of each of so many owners.

@@ -1,11 +1,13 @@
 //! How a cluster is opened: its table is built, and owners and nodes take what they keep of it.
 
-ghost use Rattle.std.specs.Prelude.{◌≡◌, ◌≤◌, None, false, IfErr, IfOk, OnOk};
+ghost use Rattle.std.specs.Prelude.{◌≡◌, ◌≤◌, [], None, false, IfErr, IfOk, OnOk, map};
 ghost use Rattle.flow_types.specs.Map.{AreDistinct};
 ghost use Rattle.group_search.specs.Build.{IsBuild, past_limit};
 ghost use Rattle.group_search.specs.Records.{AreHandled};
 ghost use Rattle.replay_model.specs.Replaying.{fresh};
-ghost use Rattle.cluster_replay.specs.Cluster.{AreOpenedNodes, AreOpenedSenders};
+ghost use Rattle.replica_shard.specs.Shard.{shard_after};
+ghost use Rattle.replica_shard.specs.Store.{shard_state_of};
+ghost use Rattle.cluster_replay.specs.Cluster.{AreOpened, AreOpenedNodes, AreOpenedSenders, owners_in};
 ghost use Rattle.cluster_replay.specs.Limits.{IsCausedBy};
 
 use crate::cluster::Cluster;
@@ -16,6 +18,7 @@ use flow_types::laws::numbers_of_a_shape;
 use flow_types::{Flow, Shape};
 use group_search::BlockImage;
 use out_of_memory::OutOfMemory;
+use replica_shard::ShardPlan;
 use setsep_build::build;
 use std::alloc::Global;
 use std::thread::Threads;
@@ -45,7 +48,7 @@ pub fn open<R: Threads + Sync>(
         Ok(images) => images,
         Err(refused) => return Err(InputFault::from(refused)),
     };
-    Ok(open_with(alloc, shape, flows, images.as_slice())?)
+    Ok(open_with(alloc, shape, flows, images)?)
 }
 
 /// The cluster of these flows and of the images that they give.
@@ -53,17 +56,18 @@ fn open_with(
     alloc: Global,
     shape: Shape,
     flows: &[Flow],
-    images: &[BlockImage],
+    images: Vec<BlockImage>,
 ) -> Result<Cluster, OutOfMemory>
     requires distinct { AreDistinct flows.now }
     requires handled { AreHandled shape.nodes flows.now }
-    requires built { IsBuild shape flows.now images.now }
+    requires built { IsBuild shape flows.now images.items }
     ensures opened { IfOk result (λ run. run.cluster ≡ fresh (record { size = shape; flows = flows.now })) }
     ensures memory { IfOk result (λ run. run.lacks_memory ≡ false) }
 {
     numbers_of_a_shape(shape);
-    let owners = owners(alloc, shape, flows, images)?;
-    let nodes = nodes(alloc, shape, flows, images)?;
+    let owners = owners(alloc, shape, flows, images.as_slice())?;
+    let plans = plans(alloc, shape, flows, images)?;
+    let nodes = nodes(alloc, shape, flows, plans.as_slice())?;
     let flows = Vec::from_slice(alloc, flows)?;
     Ok(Cluster {
         shape,
@@ -94,20 +98,39 @@ fn owners(
     Ok(owners)
 }
 
+/// What the nodes' tables of each owner that has a block are opened with. The images aren't needed any more then.
+fn plans(
+    alloc: Global,
+    shape: Shape,
+    flows: &[Flow],
+    images: Vec<BlockImage>,
+) -> Result<Vec<ShardPlan>, OutOfMemory>
+    requires { IsBuild shape flows.now images.items }
+    ensures { IfOk result (λ plans. AreOpened (owners_in shape) (λ owner. shard_after shape owner flows.now []) (map shard_state_of plans.items)) }
+{
+    let _ = flows;
+    let count = shape.nodes().min(shape.blocks()) as u8;
+    let mut plans = Vec::new(alloc);
+    'owners: for owner in 0..count {
+        plans.push(ShardPlan::of(alloc, shape, owner, images.as_slice())?)?;
+    }
+    Ok(plans)
+}
+
 /// The nodes of the cluster.
 fn nodes(
     alloc: Global,
     shape: Shape,
     flows: &[Flow],
-    images: &[BlockImage],
+    plans: &[ShardPlan],
 ) -> Result<Vec<Node>, OutOfMemory>
     requires distinct { AreDistinct flows.now }
-    requires built { IsBuild shape flows.now images.now }
+    requires planned { AreOpened (owners_in shape) (λ owner. shard_after shape owner flows.now []) (map shard_state_of plans.now) }
     ensures { IfOk result (λ nodes. AreOpenedNodes shape flows.now nodes.items) }
 {
     let mut nodes = Vec::new(alloc);
     'numbers: for number in 0..shape.nodes() as u8 {
-        nodes.push(Node::open(alloc, shape, number, flows, images)?)?;
+        nodes.push(Node::open(alloc, shape, number, flows, plans)?)?;
     }
     Ok(nodes)
 }

@@ -5,3 +5,4 @@ pub mod Heading
 pub mod Fields
 pub mod Refusals
 pub mod Laws
+pub mod Deltas

@@ -2,7 +2,8 @@
 //! key in a node's FIB.
 //!
 //! `specs/Fits.antt` says which messages fit a shape, `specs/Spelling.antt` what octets a message has, and
-//! `specs/Fields.antt` of which fields octets are read and which of them is the first at fault. No call takes memory.
+//! `specs/Fields.antt` of which fields octets are read and which of them is the first at fault. `specs/Deltas.antt` says
+//! what an owner's changes tell the tables. No call takes memory.
 //! Proved: a message that fits has one spelling, which `encode` gives; `decode` gives exactly the message whose spelling
 //! begins the octets, and else exactly the first fault. Only tested: that the definitions meet vectors from outside.
 #![tactic(auto)]

@@ -1,5 +1,6 @@
 -- How the words of a table are laid before it is opened_with, block by block.
-use Rattle.std.specs.Prelude.{◌≡◌, ◌≢◌, ℕ, ◌+◌, ◌*◌, ◌<◌, ◌≤◌, List, [], ◌∷◌, length, slice_index_or}
+use Rattle.std.specs.Prelude.{◌≡◌, ◌≢◌, ℕ, ◌+◌, ◌*◌, ◌<◌, ◌≤◌, List, [], ◌∷◌, length, slice_index_or, All}
+use Rattle.flow_types.specs.Size.{value_bits}
 use Rattle.group_search.specs.declared.record.GroupRecord.{GroupRecord}
 use Rattle.group_search.specs.Canon.{rows_in}
 use Rattle.group_search.specs.Home.{Home}
@@ -8,6 +9,7 @@ use Rattle.group_search.specs.Published.{opening_record}
 use Rattle.group_search.specs.Words.{HasBits}
 use Rattle.group_cell.specs.Changes.{Untouched}
 use Rattle.group_cell.specs.Layout.{sequence}
+use Rattle.group_cell.specs.Opening.{HaveAllGroups, Opened}
 use Rattle.group_cell.specs.Rule.{Holds, RowsStand}
 use Rattle.group_cell.specs.Seating.{AreOwners, places_of}
 
@@ -44,6 +46,12 @@ pub record IsBlockLaid (words owners : List ℕ) (image : Image) : Type 0 where
 pub record AreLaid (words : List ℕ) (owners : List (List ℕ)) (images : List Image) : Type 0 where
   pub wide : length words ≡ 320 * length images
   pub one_each : length owners ≡ length images
-  pub all : (block : ℕ) → block < length images → 64 ≤ length (slice_index_or images block (record { choices = []; records = [] })).records
+  pub all : HaveAllGroups images
   pub owners_of : (block : ℕ) → block < length images → AreOwners (slice_index_or owners block []) words block
   pub groups : (at : Home) → at.block < length images → at.group < 64 → IsLaid words (slice_index_or owners at.block []) at (opening_record images at)
+
+-- the opening's images are laid in its words, and it has a block; the opening records have the cluster's value bits
+pub record IsPlanned (o : Opened) (owners : List (List ℕ)) : Type 0 where
+  pub laid : AreLaid o.words owners o.images
+  pub has_a_block : 0 < length o.images
+  pub bits : All (λ (image : Image). All (HasBits (value_bits o.size.nodes)) image.records) o.images

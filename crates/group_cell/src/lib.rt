@@ -21,4 +21,4 @@ mod table;
 mod tests;
 mod view;
 
-pub use table::{CellTable, Changing, Look, ReaderSeat, WriterSeat};
+pub use table::{CellTable, Changing, Look, ReaderSeat, TablePlan, WriterSeat};

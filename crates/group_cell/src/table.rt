@@ -16,6 +16,8 @@ mod placing;
 mod publishing;
 mod room;
 
+pub use opening::TablePlan;
+
 /// Groups of some blocks of a cluster's table, which one writer rewrites in place under any number of readers.
 ///
 /// No call waits for another thread, and none but `open` takes memory. Each call takes the table by `&self` and a seat,

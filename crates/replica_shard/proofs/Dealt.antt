@@ -1,31 +1,46 @@
--- The blocks of one owner, opened one after the other.
-use Rattle.std.proofs.Common.{◌≡◌, ℕ, ◌+◌, ◌*◌, ◌<◌, inl, inr, List, [], ◌∷◌, ◌++◌, length, Some, sym, ◌∙◌, ap, subst, arith}
+-- The images of one owner's blocks, gathered one after the other.
+use Rattle.std.proofs.Common.{◌≡◌, ◌∙◌, ℕ, ◌+◌, ◌*◌, ◌<◌, ◌≤◌, inl, inr, List, [], ◌∷◌, ◌++◌, length, get_or, Some, sym, ap, subst, arith}
+use Rattle.std.specs.Prelude.{All}
 use Rattle.std.specs.List.{slice_get}
 use Rattle.std.proofs.lemmas.Bool.{cases_lt}
-use Rattle.std.proofs.lemmas.Option.{same_Some, slice_get_within}
+use Rattle.std.proofs.lemmas.Option.{get_or_from_slice_get, slice_get-get_or, slice_get_within}
 use Rattle.flow_types.proofs.Elements.{length_pushed, pushed_before, pushed_last}
+use Rattle.flow_types.specs.Size.{Size}
 use Rattle.group_search.specs.Image.{Image}
-use Rattle.replica_shard.specs.Store.{AreOpenedFrom, BlockStore, IsOpenedWith}
+use Rattle.replica_shard.specs.Store.{AreOwnersImages}
 
-pub next_block : (nodes owner number : ℕ) (blocks : List BlockStore) (block : BlockStore) → number ≡ owner + nodes * length blocks
-    → number + nodes ≡ owner + nodes * length (blocks ++ block ∷ [])
-next_block nodes owner number blocks block at = omega (arith, at, ap (λ (n : ℕ). nodes * n) (length_pushed blocks block))
+-- the images so far are those of the owner's first blocks
+abbrev pub AreFirst : (nodes owner : ℕ) → (images own : List Image) → Type 0
+AreFirst nodes owner images own = (i : ℕ) → i < length own → slice_get own i ≡ slice_get images (owner + nodes * i)
 
-pub none_yet : (nodes owner : ℕ) (images : List Image) → AreOpenedFrom nodes owner images []
-none_yet nodes owner images = λ i block there. absurd (omega (arith, slice_get_within [] i block there))
+pub next_block : (nodes owner number : ℕ) (own : List Image) (image : Image) → number ≡ owner + nodes * length own
+    → number + nodes ≡ owner + nodes * length (own ++ image ∷ [])
+next_block nodes owner number own image at = omega (arith, at, ap (λ (n : ℕ). nodes * n) (length_pushed own image))
 
-pub one_more : (nodes owner number : ℕ) (images : List Image) (blocks : List BlockStore) (image : Image) (block : BlockStore) → AreOpenedFrom nodes owner images blocks
-    → number ≡ owner + nodes * length blocks → slice_get images number ≡ Some image → IsOpenedWith image block → AreOpenedFrom nodes owner images (blocks ++ block ∷ [])
-one_more nodes owner number images blocks image block first at is opened = λ i other there.
-    elim (cases_lt i (length blocks)) [
-      | inl before ↦ first i other (sym (pushed_before blocks block i before) ∙ there)
+pub one_more : (nodes owner number : ℕ) (images own : List Image) (image : Image) → AreFirst nodes owner images own
+    → number ≡ owner + nodes * length own → slice_get images number ≡ Some image → AreFirst nodes owner images (own ++ image ∷ [])
+one_more nodes owner number images own image first at is = λ i low.
+    elim (cases_lt i (length own)) [
+      | inl before ↦ pushed_before own image i before ∙ first i before
       | inr past ↦
-          let within : i < length (blocks ++ block ∷ []) = slice_get_within (blocks ++ block ∷ []) i other there in
-          let last : i ≡ length blocks = omega (arith, length_pushed blocks block) in
-          let same : block ≡ other = same_Some block other (sym (pushed_last blocks block i last) ∙ there) in
-          record {
-            image = image;
-            there = ap (slice_get images) (ap (λ (n : ℕ). owner + nodes * n) last ∙ sym at) ∙ is;
-            opened = subst (IsOpenedWith image) same opened;
-          }
+          let last : i ≡ length own = omega (arith, length_pushed own image) in
+          pushed_last own image i last ∙ sym (ap (slice_get images) (ap (λ (n : ℕ). owner + nodes * n) last ∙ sym at) ∙ is)
+    ]
+
+-- what holds of each image holds of each of the owner's
+pub each_of_owner : (P : Image → Type 0) (size : Size) (owner : ℕ) (images own : List Image) → AreOwnersImages size owner images own → All P images → All P own
+each_of_owner P size owner images own are all = λ i d low.
+    let there : slice_get images (owner + size.nodes * i) ≡ Some (get_or own i d) = sym (are.each i low) ∙ slice_get-get_or own i d low in
+    subst P (get_or_from_slice_get images (owner + size.nodes * i) (get_or own i d) d there)
+    (all (owner + size.nodes * i) d (slice_get_within images (owner + size.nodes * i) (get_or own i d) there))
+
+-- an owner with a block has an image
+pub some_image : (size : Size) (owner : ℕ) (images own : List Image) → AreOwnersImages size owner images own → owner < size.blocks → 0 < length own
+some_image size owner images own are has =
+    elim (cases_lt 0 (length own)) [
+      | inl some ↦ some
+      | inr none ↦
+          let enough = are.enough in
+          let empty : length own ≡ 0 = omega arith in
+          absurd (omega (arith, enough, ap (λ (n : ℕ). size.nodes * n) empty))
     ]

@@ -3,3 +3,5 @@ pub mod Message
 pub mod Shard
 pub mod Store
 pub mod Turns
+pub mod Owners
+pub mod Seats

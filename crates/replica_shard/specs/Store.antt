@@ -1,112 +1,72 @@
--- How a shard keeps what it says: the owner's blocks in their order, and of each block the choices of its buckets, and the
--- record and the version of each of its groups.
-use Rattle.std.specs.Prelude.{ℕ, ◌≡◌, ◌+◌, ◌*◌, ◌/◌, ◌≤◌, ◌<◌, All, if◌then◌else◌, List, [], length, map, replicate, sum, slice_index, Option, Some, None, option_and_then}
-use Rattle.std.specs.List.{range_with_len, slice_get}
-use Rattle.flow_types.specs.Size.{Size}
+-- What a shard keeps: the images of the owner's blocks, and the list of the records that were taken since, one a turn. What it
+-- says by them.
+use Rattle.std.specs.Prelude.{ℕ, ◌≡◌, ◌+◌, ◌*◌, ◌/◌, ◌≤◌, ◌<◌, if◌then◌else◌, List, [], ◌∷◌, All, length, sum_by, Option, Some, None}
+use Rattle.std.specs.List.{slice_get}
+use Rattle.flow_types.specs.declared.record.Flow.{Flow}
+use Rattle.flow_types.specs.Size.{Size, value_bits}
+use Rattle.group_search.specs.declared.published.Publication.{Publication}
 use Rattle.group_search.specs.declared.record.GroupRecord.{GroupRecord}
+use Rattle.group_search.specs.Build.{IsBuild}
 use Rattle.group_search.specs.Canon.{rows_in}
 use Rattle.group_search.specs.Home.{Home}
 use Rattle.group_search.specs.Image.{Image}
-use Rattle.replica_shard.specs.Shard.{ShardState, is_owned_block, is_owned_group, rows_taken_by}
+use Rattle.group_search.specs.Published.{count, records_of}
+use Rattle.group_search.specs.Words.{HasBits}
+use Rattle.replica_shard.specs.Shard.{ShardState, is_owned_block}
 
--- what a contract sees of a block
-pub record BlockStore : Type 0 where
-  pub choices : List ℕ
-  pub records : List GroupRecord
-  pub versions : List ℕ
-
--- what a contract sees of a shard
+-- what a contract sees of a shard and of a list of records that were taken: the records name the cluster's blocks
 pub record ShardStore : Type 0 where
   pub size : Size
   pub owner : ℕ
-  pub blocks : List BlockStore
-  pub taken : ℕ
+  pub images : List Image
+  pub list : List Publication
 
 -- ---- what it says
 
--- the block of this number, if it is one of the owner's
-abbrev pub block_in : ShardStore → (block : ℕ) → Option BlockStore
-block_in shard block = if is_owned_block shard.size shard.owner block then slice_get shard.blocks (block / shard.size.nodes) else None
-
--- the choices of a block that is there
-abbrev pub choices_kept : Option BlockStore → List ℕ
-choices_kept None = []
-choices_kept (Some block) = block.choices
-
--- the record of a group of a block that is there
-abbrev pub record_kept : Option BlockStore → (group : ℕ) → Option GroupRecord
-record_kept None group = None
-record_kept (Some block) group = slice_get block.records group
-
--- the version of a group of a block that is there
-abbrev pub version_kept : Option BlockStore → (group : ℕ) → ℕ
-version_kept None group = 0
-version_kept (Some block) group = slice_index block.versions group
-
--- what a shard says by what it keeps
-abbrev pub shard_state_of : ShardStore → ShardState
-shard_state_of shard = record {
-  size = shard.size;
-  owner = shard.owner;
-  choices = λ (block : ℕ). choices_kept (block_in shard block);
-  records = λ (at : Home). record_kept (block_in shard at.block) at.group;
-  versions = λ (at : Home). version_kept (block_in shard at.block) at.group;
-  taken = shard.taken;
-}
-
--- ---- how it is opened
+-- the image of a block, if it is one of the owner's: these stand in their order
+abbrev pub image_in : ShardStore → (block : ℕ) → Option Image
+image_in shard block = if is_owned_block shard.size shard.owner block then slice_get shard.images (block / shard.size.nodes) else None
 
 -- the choices of an image that is there
 abbrev pub choices_shown : Option Image → List ℕ
 choices_shown None = []
 choices_shown (Some image) = image.choices
 
--- what a shard says that is opened with these images of all blocks
-abbrev pub shard_of_images : Size → (owner : ℕ) → List Image → ShardState
-shard_of_images size owner images = record {
-  size = size;
-  owner = owner;
-  choices = λ (block : ℕ). if is_owned_block size owner block then choices_shown (slice_get images block) else [];
-  records = λ (at : Home). if is_owned_group size owner at then option_and_then (λ (image : Image). slice_get image.records at.group) (slice_get images at.block) else None;
-  versions = λ (at : Home). 0;
-  taken = 0;
+-- the record of a group in an image that is there
+abbrev pub record_shown : Option Image → (group : ℕ) → Option GroupRecord
+record_shown None group = None
+record_shown (Some image) group = slice_get image.records group
+
+-- the last of these records, or else the one before them
+abbrev pub last_or : Option GroupRecord → List GroupRecord → Option GroupRecord
+last_or before [] = before
+last_or before (content ∷ rest) = last_or (Some content) rest
+
+-- what a shard says after these records: a group has the last that was taken for it, or else the one that its image shows; its
+-- version is the number of those that were taken for it
+abbrev pub shard_state_of : ShardStore → ShardState
+shard_state_of shard = record {
+  size = shard.size;
+  owner = shard.owner;
+  choices = λ (block : ℕ). choices_shown (image_in shard block);
+  records = λ (at : Home). last_or (record_shown (image_in shard at.block) at.group) (records_of shard.list at);
+  versions = λ (at : Home). count shard.list at;
+  taken = length shard.list;
 }
 
--- the block has what its image says, and no group of it has a change
-pub record IsOpenedWith (image : Image) (block : BlockStore) : Type 0 where
-  pub choices : block.choices ≡ image.choices
-  pub one_record_each : length block.records ≡ 64
-  pub records : (group : ℕ) → group < 64 → slice_get block.records group ≡ slice_get image.records group
-  pub versions : block.versions ≡ replicate 64 0
+-- ---- how it is opened
 
--- the image of a block, and the block that is opened with it
-pub record IsOpenedFrom (images : List Image) (number : ℕ) (block : BlockStore) : Type 0 where
-  pub image : Image
-  pub there : slice_get images number ≡ Some image
-  pub opened : IsOpenedWith image block
+-- these are the images of the owner's blocks among those of all blocks, in their order: blocks are dealt to the nodes in turn
+pub record AreOwnersImages (size : Size) (owner : ℕ) (images own : List Image) : Type 0 where
+  pub enough : size.blocks ≤ owner + size.nodes * length own
+  pub each : (i : ℕ) → i < length own → slice_get own i ≡ slice_get images (owner + size.nodes * i)
 
--- the blocks are dealt to the nodes in turn: these are the owner's, in their order, each opened with its image
-abbrev pub AreOpenedFrom : (nodes owner : ℕ) → List Image → List BlockStore → Type 0
-AreOpenedFrom nodes owner images blocks = (i : ℕ) (block : BlockStore) → slice_get blocks i ≡ Some block → IsOpenedFrom images (owner + nodes * i) block
+-- there is an image for each block, each of at most 64 rows in all, and served records have the cluster's value bits
+pub record CanBeTables (size : Size) (images : List Image) : Type 0 where
+  pub one_each : length images ≡ size.blocks
+  pub few_rows : All (λ (image : Image). sum_by rows_in image.records ≤ 64) images
+  pub bits : All (λ (image : Image). All (HasBits (value_bits size.nodes)) image.records) images
 
--- ---- what stays so
-
--- how many rows the groups of a block take in all
-unfoldable pub rows_used : List GroupRecord → ℕ
-rows_used records = sum (map (λ (group : ℕ). rows_taken_by (slice_get records group)) (range_with_len 0 64))
-
--- the block has a record and a version for each group, and the number of its rows is kept
-pub record KeepsGroups (used : ℕ) (block : BlockStore) : Type 0 where
-  pub one_record_each : length block.records ≡ 64
-  pub one_version_each : length block.versions ≡ 64
-  pub used_is : used ≡ rows_used block.records
-  pub few_rows : All (λ (content : GroupRecord). rows_in content < 256) block.records
-
--- no group of the block has more versions than so many turns
-abbrev pub HasFewVersions : (taken : ℕ) → BlockStore → Type 0
-HasFewVersions taken block = All (λ (version : ℕ). version ≤ taken) block.versions
-
--- the owner's blocks are there, and no group has more versions than turns were taken
-pub record KeepsBlocks (size : Size) (owner taken : ℕ) (blocks : List BlockStore) : Type 0 where
-  pub enough : size.blocks ≤ owner + size.nodes * length blocks
-  pub few : All (HasFewVersions taken) blocks
+-- so it is with the images of a build
+abbrev pub BuildsCanBeTables : Type 0
+BuildsCanBeTables = (size : Size) (flows : List Flow) (images : List Image) → IsBuild size flows images → CanBeTables size images

@@ -1,5 +1,5 @@
 -- What the messages of an owner's changes make of a shard.
-use Rattle.std.specs.Prelude.{ℕ, ◌≡◌, ◌+◌, ◌%◌, ◌<◌, ◌≤◌, ◌++◌, List, [], ◌∷◌, All, Some, length, fold, take}
+use Rattle.std.specs.Prelude.{ℕ, ◌≡◌, ◌+◌, ◌%◌, ◌<◌, ◌≤◌, ◌++◌, List, [], ◌∷◌, All, Some, length, fold, map, take}
 use Rattle.std.specs.List.{slice_get}
 use Rattle.flow_types.specs.declared.key.FlowKey.{FlowKey}
 use Rattle.flow_types.specs.declared.record.Flow.{Flow}
@@ -10,7 +10,9 @@ use Rattle.group_search.specs.Owned.{IsOwned}
 use Rattle.group_history.specs.declared.change.Change.{Change}
 use Rattle.group_history.specs.Journal.{change_count}
 use Rattle.delta_codec.specs.declared.message.TableMessage.{TableMessage}
+use Rattle.delta_codec.specs.Deltas.{delta_told, deltas}
 use Rattle.replica_shard.specs.Message.{IsTableMessage, IsTableMessageOf}
+use Rattle.replica_shard.specs.Owners.{publication_of}
 use Rattle.replica_shard.specs.Routed.{decoded}
 use Rattle.replica_shard.specs.Shard.{content_after, home_in_state, route_in_state, shard_after, with_content}
 
@@ -36,6 +38,12 @@ abbrev pub TurnsMakeTable : Type 0
 TurnsMakeTable = (size : Size) (owner : ℕ) (flows : List Flow) (changes : List Change) (messages : List TableMessage)
     → All (IsOfOwner size owner) changes → AreTableMessagesOf size owner flows changes messages
     → fold with_content (shard_after size owner flows []) messages ≡ shard_after size owner flows (take (length messages) changes)
+
+-- the records of an owner's first messages, in their order, are the first of its deltas
+abbrev pub TurnsTellDeltas : Type 0
+TurnsTellDeltas = (size : Size) (owner : ℕ) (flows : List Flow) (changes : List Change) (messages : List TableMessage)
+    → AreTableMessagesOf size owner flows changes messages
+    → map delta_told (map publication_of messages) ≡ take (length messages) (deltas size flows changes)
 
 -- after changes of its owner a shard has the keys of the owner's blocks at the homes that the flows give them
 abbrev pub HomesStay : Type 0

@@ -2,7 +2,8 @@
 //! contract says it.
 
 ghost use Rattle.replica_shard.specs.Routed.{BuildReachesHandlers, StaysInCluster};
-ghost use Rattle.replica_shard.specs.Turns.{HomesStay, RoutesFollowChanges, TableTurnsGoOn, TurnsMakeTable};
+ghost use Rattle.replica_shard.specs.Store.{BuildsCanBeTables};
+ghost use Rattle.replica_shard.specs.Turns.{HomesStay, RoutesFollowChanges, TableTurnsGoOn, TurnsMakeTable, TurnsTellDeltas};
 
 /// Where the flows can be built, the key of each flow is sent to the flow's handler.
 #[tactic(auto, using(crate::proofs::Built::routed_to_handlers))]
@@ -16,14 +17,22 @@ pub fn routes_stay_in_the_cluster()
     ensures { StaysInCluster }
 {}
 
+/// A shard can be opened with the images of a build.
+#[tactic(auto, using(crate::proofs::Tables::can_be_tables))]
+pub fn builds_can_be_tables()
+    ensures { BuildsCanBeTables }
+{}
+
 /// By the message of a change, a shard before the change becomes the shard after it.
 pub fn a_turn_goes_on()
     ensures { TableTurnsGoOn }
 {}
 
-/// A shard that took the messages of the first turns of its owner in their order is the shard after these turns.
+/// A shard that took the messages of the first turns of its owner in their order is the shard after these turns, and its
+/// list is the first of what the owner's changes tell.
 pub fn turns_make_the_table()
-    ensures { TurnsMakeTable }
+    ensures table { TurnsMakeTable }
+    ensures list { TurnsTellDeltas }
 {}
 
 /// After changes of its owner a shard sends each key of the owner's blocks where the canonical record of the key's group

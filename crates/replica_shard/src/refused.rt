@@ -23,6 +23,4 @@ pub enum ShardRefused {
         /// How many rows are free.
         free: u8,
     },
-    /// Memory that the call asked for was not there. `PlainShard::apply` asks for none.
-    OutOfMemory,
 }

@@ -15,8 +15,8 @@ owners-preserved c =
     record {
       told =
           one_more_owner run c.args.node c.owners.owner c.owners.self c.owners.invariant.told (node_there run sized c.args.node c.requires.node)
-          (both_there run sized c.args.node c.owners.owner c.requires.node has) c.bring_up_fib.new.self
-          (c.in_ok-bring_up_fib.ensures ∙ ap (with_turns Fib c.args.node c.owners.owner) c.in_ok-bring_up_table.ensures);
+          (both_there run sized c.args.node c.owners.owner c.requires.node has) c.bring_up_part-in-owners.new.self
+          (c.in_ok-bring_up_part-2.ensures ∙ ap (with_turns Fib c.args.node c.owners.owner) c.in_ok-bring_up_part.ensures);
       within = omega (arith, has);
     }
 

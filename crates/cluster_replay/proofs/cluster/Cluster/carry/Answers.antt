@@ -33,28 +33,14 @@ returns-then-turn-turns-clause-taken c =
     let many = as_many_sent i.shape i.flows.items i.owners.items i.nodes.items c.self.invariant i.lacks_memory c.args.self.now c.self.view_is c.args.owner c.requires.owner c.in-Some.sender.now there sender in
     run_unsent c.args.self.now c.args.part c.args.node c.args.owner c.args.turn (omega (arith, many, c.turns.ensures, c.if-turn-turns.true))
 
-pub carry_table-requires-clause-owner : goal.carry_table-requires-clause-owner
-carry_table-requires-clause-owner c =
+pub deliver-requires-clause-owner : goal.deliver-requires-clause-owner
+deliver-requires-clause-owner c =
     let i = c.self.inside in
     let there : c.args.owner < length i.owners.items = rw (← c.from.ensures, ← c.deref.ensures.value) (ltb-true _ _ (sym c.in-Some.ensures.lookup.0)) in
     has_owner i.shape i.flows.items i.owners.items i.nodes.items c.self.invariant i.lacks_memory c.args.self.now c.self.view_is c.args.owner c.requires.owner there
 
-pub carry_table-requires-clause-sent : goal.carry_table-requires-clause-sent
-carry_table-requires-clause-sent c =
-    let i = c.self.inside in
-    let there : c.args.owner < length i.owners.items = rw (← c.from.ensures, ← c.deref.ensures.value) (ltb-true _ _ (sym c.in-Some.ensures.lookup.0)) in
-    let sender : c.in-Some.sender.now ≡ get_or i.owners.items c.args.owner c.in-Some.sender.now = rw (← c.from.ensures, ← c.deref.ensures.value) c.in-Some.ensures.lookup.1 in
-    let many = as_many_sent i.shape i.flows.items i.owners.items i.nodes.items c.self.invariant i.lacks_memory c.args.self.now c.self.view_is c.args.owner c.requires.owner c.in-Some.sender.now there sender in
-    omega (arith, many, c.turns.ensures, c.if-turn-turns.false)
-
-pub carry_fib-requires-clause-owner : goal.carry_fib-requires-clause-owner
-carry_fib-requires-clause-owner c =
-    let i = c.self.inside in
-    let there : c.args.owner < length i.owners.items = rw (← c.from.ensures, ← c.deref.ensures.value) (ltb-true _ _ (sym c.in-Some.ensures.lookup.0)) in
-    has_owner i.shape i.flows.items i.owners.items i.nodes.items c.self.invariant i.lacks_memory c.args.self.now c.self.view_is c.args.owner c.requires.owner there
-
-pub carry_fib-requires-clause-sent : goal.carry_fib-requires-clause-sent
-carry_fib-requires-clause-sent c =
+pub deliver-requires-clause-sent : goal.deliver-requires-clause-sent
+deliver-requires-clause-sent c =
     let i = c.self.inside in
     let there : c.args.owner < length i.owners.items = rw (← c.from.ensures, ← c.deref.ensures.value) (ltb-true _ _ (sym c.in-Some.ensures.lookup.0)) in
     let sender : c.in-Some.sender.now ≡ get_or i.owners.items c.args.owner c.in-Some.sender.now = rw (← c.from.ensures, ← c.deref.ensures.value) c.in-Some.ensures.lookup.1 in

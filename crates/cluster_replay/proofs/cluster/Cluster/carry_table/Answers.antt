@@ -1,5 +1,5 @@
 use Rattle.std.proofs.Common.{arith}
-use Rattle.cluster_replay.proofs.Held.{table_answers, table_fits, table_has_room, table_own, table_there, node_index, owner_index, stands, turn_known}
+use Rattle.cluster_replay.proofs.Held.{table_carried, table_fits, table_has_room, table_own, table_there, node_index, owner_index, stands, turn_known}
 use Rattle.cluster_replay.proofs.cluster.Cluster.carry_table.Goals as goal
 
 pub index-requires : goal.index-requires
@@ -67,20 +67,20 @@ invariant_of-self c =
     let a = c.args in
     let r = c.requires in
     rw c.from-2.ensures
-    (table_answers i.shape i.flows.items i.owners.items i.nodes.items c.self.invariant i.lacks_memory a.self.now c.self.view_is a.owner a.node a.turn r.owner r.node r.sent
+    (table_carried i.shape i.flows.items i.owners.items i.nodes.items c.self.invariant i.lacks_memory a.self.now c.self.view_is a.owner a.node a.turn r.owner r.node r.sent
     c.index.result.now (rw (← c.from.ensures) c.index.ensures) c.index_mut.result.now (rw (← c.from-2.ensures) c.index_mut.ensures.value)
     c.table_message-message.result (c.table_message-message.ensures.of_turn i.shape a.owner i.flows.items (stands i.shape i.flows.items i.owners.items i.nodes.items c.self.invariant i.lacks_memory a.self.now c.self.view_is a.owner a.node a.turn r.owner r.node r.sent c.index.result.now (rw (← c.from.ensures) c.index.ensures)))
-    c.take_table.result c.take_table.new.self c.take_table.ensures.reply c.take_table.ensures.taken c.take_table.ensures.refused).stands
+    c.take_table.result c.take_table.new.self c.take_table.ensures.reply c.take_table.ensures.taken).stands
 
 pub returns-clause-reply : goal.returns-clause-reply
 returns-clause-reply c =
     let i = c.self.inside in
     let a = c.args in
     let r = c.requires in
-    (table_answers i.shape i.flows.items i.owners.items i.nodes.items c.self.invariant i.lacks_memory a.self.now c.self.view_is a.owner a.node a.turn r.owner r.node r.sent
+    (table_carried i.shape i.flows.items i.owners.items i.nodes.items c.self.invariant i.lacks_memory a.self.now c.self.view_is a.owner a.node a.turn r.owner r.node r.sent
     c.index.result.now (rw (← c.from.ensures) c.index.ensures) c.index_mut.result.now (rw (← c.from-2.ensures) c.index_mut.ensures.value)
     c.table_message-message.result (c.table_message-message.ensures.of_turn i.shape a.owner i.flows.items (stands i.shape i.flows.items i.owners.items i.nodes.items c.self.invariant i.lacks_memory a.self.now c.self.view_is a.owner a.node a.turn r.owner r.node r.sent c.index.result.now (rw (← c.from.ensures) c.index.ensures)))
-    c.take_table.result c.take_table.new.self c.take_table.ensures.reply c.take_table.ensures.taken c.take_table.ensures.refused).answers
+    c.take_table.result c.take_table.new.self c.take_table.ensures.reply c.take_table.ensures.taken).answers
 
 pub returns-clause-taken : goal.returns-clause-taken
 returns-clause-taken c =
@@ -88,18 +88,7 @@ returns-clause-taken c =
     let a = c.args in
     let r = c.requires in
     rw c.from-2.ensures
-    (table_answers i.shape i.flows.items i.owners.items i.nodes.items c.self.invariant i.lacks_memory a.self.now c.self.view_is a.owner a.node a.turn r.owner r.node r.sent
+    (table_carried i.shape i.flows.items i.owners.items i.nodes.items c.self.invariant i.lacks_memory a.self.now c.self.view_is a.owner a.node a.turn r.owner r.node r.sent
     c.index.result.now (rw (← c.from.ensures) c.index.ensures) c.index_mut.result.now (rw (← c.from-2.ensures) c.index_mut.ensures.value)
     c.table_message-message.result (c.table_message-message.ensures.of_turn i.shape a.owner i.flows.items (stands i.shape i.flows.items i.owners.items i.nodes.items c.self.invariant i.lacks_memory a.self.now c.self.view_is a.owner a.node a.turn r.owner r.node r.sent c.index.result.now (rw (← c.from.ensures) c.index.ensures)))
-    c.take_table.result c.take_table.new.self c.take_table.ensures.reply c.take_table.ensures.taken c.take_table.ensures.refused).goes_on
-
-pub returns-clause-refused : goal.returns-clause-refused
-returns-clause-refused c =
-    let i = c.self.inside in
-    let a = c.args in
-    let r = c.requires in
-    rw c.from-2.ensures
-    (table_answers i.shape i.flows.items i.owners.items i.nodes.items c.self.invariant i.lacks_memory a.self.now c.self.view_is a.owner a.node a.turn r.owner r.node r.sent
-    c.index.result.now (rw (← c.from.ensures) c.index.ensures) c.index_mut.result.now (rw (← c.from-2.ensures) c.index_mut.ensures.value)
-    c.table_message-message.result (c.table_message-message.ensures.of_turn i.shape a.owner i.flows.items (stands i.shape i.flows.items i.owners.items i.nodes.items c.self.invariant i.lacks_memory a.self.now c.self.view_is a.owner a.node a.turn r.owner r.node r.sent c.index.result.now (rw (← c.from.ensures) c.index.ensures)))
-    c.take_table.result c.take_table.new.self c.take_table.ensures.reply c.take_table.ensures.taken c.take_table.ensures.refused).refused
+    c.take_table.result c.take_table.new.self c.take_table.ensures.reply c.take_table.ensures.taken).goes_on

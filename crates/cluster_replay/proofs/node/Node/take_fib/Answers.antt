@@ -32,7 +32,7 @@ returns-clause-reply c =
 
 pub returns-clause-taken : goal.returns-clause-taken
 returns-clause-taken c =
-    let held : NodeStore = record { shards = c.self.inside.shards.items; fibs = c.self.inside.fibs.items } in
+    let held : NodeStore = record { shards = c.self.inside.tables.items; fibs = c.self.inside.fibs.items } in
     let owner = c.args.message.now.owner in
     let there : owner < length held.fibs = subst (λ (n : NodeStore). owner < length n.fibs) (sym c.self.view_is) c.requires.there in
     let old = c.index_mut.result.now in
