@@ -23,6 +23,8 @@ pub mod laws;
 mod refused;
 mod routing;
 mod shard;
+#[cfg(test)]
+mod tests;
 
 pub use group_cell::Changing;
 pub use laws::{build_reaches_handlers, routes_stay_in_the_cluster};
