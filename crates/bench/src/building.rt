@@ -1,4 +1,4 @@
-ghost use Rattle.std.specs.Prelude.{◌≡◌, All, IfOk, length};
+ghost use Rattle.std.specs.Prelude.{◌≡◌, ◌≤◌, All, IfOk, length};
 ghost use Rattle.flow_types.specs.declared.record.Flow.{Flow};
 ghost use Rattle.flow_types.specs.Map.{AreDistinct};
 ghost use Rattle.group_search.specs.Owned.{IsOwned};
@@ -8,7 +8,6 @@ use crate::keys::draw;
 use flow_types::{Flow, FlowKey, Record, Shape};
 use group_search::{BlockImage, GroupRecord};
 use hash_family::place;
-use replica_shard::PlainShard;
 use std::alloc::{AllocError, Global};
 
 /// So many flows with addresses from 0 up, their nodes drawn evenly.
@@ -44,18 +43,6 @@ pub fn owned(alloc: Global, shape: Shape, flows: &[Flow]) -> Result<Vec<Flow>, A
         }
     }
     Ok(owned)
-}
-
-/// How many of the flows, whose blocks the shard's owner owns, the shard sends to their nodes.
-pub fn routed(shard: &PlainShard, flows: &[Flow]) -> u64
-    requires { All (λ (flow : Flow). IsOwned shard.now.size shard.now.owner flow.key) flows.now }
-{
-    let mut routed = 0u64;
-    'flows: for flow in flows {
-        let route = shard.route(flow.key);
-        routed = routed.wrapping_add(u64::from(route.node == Some(flow.node)));
-    }
-    routed
 }
 
 /// How many of the keys a record gives its first node.

@@ -12,6 +12,7 @@ mod choosing;
 mod keys;
 mod reading;
 mod searching;
+mod shards;
 mod timing;
 mod work;
 mod workers;

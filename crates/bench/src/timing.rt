@@ -1,10 +1,6 @@
-ghost use Rattle.std.specs.Prelude.{◌≡◌, length};
-
 use crate::searching::Search;
-use crate::{building, choosing, searching, work};
-use flow_types::{Flow, Shape};
-use group_search::BlockImage;
-use replica_shard::PlainShard;
+use crate::{building, choosing, searching, shards, work};
+use flow_types::Shape;
 use setsep_build::build;
 use std::io;
 use std::rt::Clock;
@@ -75,34 +71,17 @@ fn table(rt: &(impl Print + AllocGlobal + Clock + Threads + Sync)) -> io::Result
     let start = Instant::now(rt)?;
     let found = building::found(shape, images.as_slice(), flows.as_slice());
     line(rt, "look", u64::from(FLOWS), start.elapsed(rt)?, found)?;
-    routes(rt, shape, images.as_slice(), flows.as_slice())
-}
-
-/// Routes the keys of one owner by its shard, and reads one record for all keys.
-fn routes(
-    rt: &(impl Print + AllocGlobal + Clock),
-    shape: Shape,
-    images: &[BlockImage],
-    flows: &[Flow],
-) -> io::Result<()>
-    requires { length images.now ≡ shape.blocks }
-{
-    let owned = building::owned(rt.alloc(), shape, flows)?;
-    let Ok(shard) = PlainShard::open(rt.alloc(), shape, 0, images) else {
-        return println!(rt; "no memory for a shard");
-    };
-    let start = Instant::now(rt)?;
-    let routed = building::routed(&shard, owned.as_slice());
-    line(rt, "route", owned.len() as u64, start.elapsed(rt)?, routed)?;
-    let Some(image) = images.first() else {
+    let Some(image) = images.as_slice().first() else {
         return Ok(());
     };
     let start = Instant::now(rt)?;
-    let first = building::decoded(image.record(0), shape.nodes(), flows);
-    line(rt, "decode", flows.len() as u64, start.elapsed(rt)?, first)
+    let first = building::decoded(image.record(0), shape.nodes(), flows.as_slice());
+    line(rt, "decode", flows.len() as u64, start.elapsed(rt)?, first)?;
+    shards::figures(rt, shape, images.as_slice(), flows.as_slice())
 }
 
-fn line(
+/// Prints a line of a work.
+pub fn line(
     rt: &impl Print,
     name: impl std::fmt::Display + Drop,
     count: u64,
