@@ -1,4 +1,4 @@
-ghost use Rattle.std.specs.Prelude.{◌≡◌, ◌≤◌, All, IfOk, length};
+ghost use Rattle.std.specs.Prelude.{All, IfOk};
 ghost use Rattle.flow_types.specs.declared.record.Flow.{Flow};
 ghost use Rattle.flow_types.specs.Map.{AreDistinct};
 ghost use Rattle.group_search.specs.Owned.{IsOwned};
