@@ -7,7 +7,7 @@ use delta_codec::{FibMessage, FibOp, Message, TableMessage, fits};
 use flow_types::{FlowKey, Record, Shape};
 use group_search::{GroupRecord, Pair, Row, Rows, Served};
 use out_of_memory::OutOfMemory;
-use std::process::Abort;
+use std::alloc::Global;
 use std::sync::Wait;
 use std::test::Fail;
 use std::thread;
@@ -86,28 +86,46 @@ fn rows(count: u8) -> Result<GroupRecord, Fail>
 /// Whether an end may go to another thread.
 fn can_go<T: Send>(_end: &T) {}
 
-fn sends(
-    rt: &(impl Wait + Abort),
+/// A new link. It is asked for again where memory was refused.
+fn linked(alloc: Global, shape: Shape) -> Result<(SendEnd, TakeEnd), OutOfMemory>
+    ensures line { IfOk result (λ ends. ends.0.line ≡ ends.1.line) }
+    ensures sender { IfOk result (λ ends. ends.0.size ≡ shape) }
+    ensures taker { IfOk result (λ ends. ends.1.size ≡ shape) }
+{
+    match link(alloc, shape) {
+        Ok(ends) => Ok(ends),
+        Err(_) => link(alloc, shape),
+    }
+}
+
+/// Sends a message, and again where memory was refused.
+fn sends<R: Wait>(
+    rt: &R,
     end: &mut SendEnd,
     shape: Shape,
     message: &Message,
 ) -> Result<(), OutOfMemory>
-    requires { end.old.size ≡ shape }
+    requires size { end.old.size ≡ shape }
+    requires fits { Fits shape message.now }
     ensures line { end.new.line ≡ end.old.line }
-    ensures size { end.new.size ≡ shape }
+    ensures size { end.new.size ≡ end.old.size }
 {
-    assert!(rt; fits(shape, message));
-    send(rt, end, shape, message)
+    match send(rt, end, shape, message) {
+        Ok(()) => Ok(()),
+        Err(_) => send(rt, end, shape, message),
+    }
 }
 
 #[test]
 fn takes_what_was_sent(rt: HostRuntime) -> Result<(), Fail> {
     let shape = shape()?;
-    let (mut sender, mut taker) = link(rt.alloc(), shape)?;
+    let (mut sender, mut taker) = linked(rt.alloc(), shape)?;
     let first = table(1, served());
     let second = table(2, rows(64)?);
     let third = fib(2, FibOp::Put(key(6), INFO));
+    assert!(rt; fits(shape, &first));
     sends(&rt, &mut sender, shape, &first)?;
+    assert!(rt; fits(shape, &second));
     sends(&rt, &mut sender, shape, &second)?;
     sends(&rt, &mut sender, shape, &third)?;
     let taken = receive(&rt, &mut taker, shape)?;
@@ -124,7 +142,7 @@ fn takes_what_was_sent(rt: HostRuntime) -> Result<(), Fail> {
 #[test]
 fn settles_what_is_left(rt: HostRuntime) -> Result<(), Fail> {
     let shape = shape()?;
-    let (mut sender, mut taker) = link(rt.alloc(), shape)?;
+    let (mut sender, mut taker) = linked(rt.alloc(), shape)?;
     let taken = settle(&rt, &mut sender, &mut taker, shape)?;
     assert_eq!(rt; taken, Taken::Empty);
     let first = fib(1, FibOp::Nothing);
@@ -162,7 +180,7 @@ fn send_many<R: Wait>(rt: &R, end: SendEnd, shape: Shape) -> (SendEnd, bool)
 {
     let mut end = end;
     'turns: for turn in 1..MANY + 1 {
-        if send(rt, &mut end, shape, &numbered(turn)).is_err() {
+        if sends(rt, &mut end, shape, &numbered(turn)).is_err() {
             return (end, false);
         }
     }
@@ -220,7 +238,7 @@ fn settle_all<R: Wait>(
 #[test]
 fn carries_from_thread_to_thread(rt: HostRuntime) -> Result<(), Fail> {
     let shape = shape()?;
-    let (sender, taker) = link(rt.alloc(), shape)?;
+    let (sender, taker) = linked(rt.alloc(), shape)?;
     can_go(&sender);
     can_go(&taker);
     let ((mut sender, sent), (mut taker, taken)) = thread::join(
