@@ -5,6 +5,8 @@ mod history;
 mod reader;
 mod shown;
 mod telling;
+#[cfg(test)]
+mod tests;
 mod turn;
 mod writer;
 

@@ -79,6 +79,9 @@ impl FibWriter {
             × (length self.old.turns + 1 < message.now.turn) × (have ≡ length self.old.turns)) }
         ensures spent { self.old.spent ≡ true → IsErrOf result OutOfMemory }
         ensures refused { (cause : FibRefused) → IsErrOf result cause → self.new ≡ after_refusal self.old cause }
+        // It stays the writer of this sharing, whatever it answers.
+        ensures book { self.new.book ≡ self.old.book }
+        ensures opening { self.new.opening ≡ self.old.opening }
     {
         if self.spent {
             return Err(FibRefused::OutOfMemory);
