@@ -73,7 +73,9 @@ fn main(rt: HostRuntime) -> io::Result<()> {
             "workers" => workers::figures(&rt),
             "rows" => reading::count(&rt),
             _ => {
-                eprintln!(&rt; "bench: the words are none, `time`, `cells`, `links`, `workers` or `rows`")
+                eprintln!(&rt;
+                    "bench: the words are none, `time`, `cells`, `links`, `workers` or `rows`"
+                )
             }
         },
     }
