@@ -1,9 +1,10 @@
 -- What an owner answers, by the flows with which it was opened and its journal.
-use Rattle.std.proofs.Common.{ℕ, ◌≡◌, ◌≢◌, ◌∙◌, ◌+◌, ◌%◌, ◌<◌, List, length, Option, Some, None, refl, sym, ap, arith}
-use Rattle.std.specs.Prelude.{option_map}
+use Rattle.std.proofs.Common.{ℕ, ◌≡◌, ◌≢◌, ◌∙◌, ◌+◌, ◌%◌, ◌<◌, List, length, Option, Some, None, refl, sym, ap, subst, arith}
+use Rattle.std.specs.Prelude.{IsPermutation, option_map}
+use Rattle.std.proofs.lemmas.List.Sorted.{IsPermutation-sym}
 use Rattle.flow_types.specs.declared.key.FlowKey.{FlowKey}
 use Rattle.flow_types.specs.declared.record.Flow.{Flow}
-use Rattle.flow_types.specs.Map.{flow_at}
+use Rattle.flow_types.specs.Map.{AreDistinct, flow_at}
 use Rattle.flow_types.specs.Size.{Size, value_bits}
 use Rattle.hash_family.specs.Hash.{place}
 use Rattle.group_search.specs.Canon.{canonical}
@@ -21,6 +22,8 @@ use Rattle.rib_owner.specs.Part.{IsKeptPart}
 use Rattle.group_search.specs.Owned.{IsOwned}
 use Rattle.rib_owner.specs.Rib.{IsPartOf, IsRibOf, Part, Rib, group_in, map_in, map_now, node_and_record, part_of}
 use Rattle.rib_owner.specs.Turn.{IsTurn, plan_of}
+use Rattle.group_history.proofs.Versions.{distinct-step}
+use Rattle.rib_owner.proofs.AnyOrder.{at_permuted, canonical_alike, distinct_permuted, step_permuted}
 use Rattle.rib_owner.proofs.Judged.{for_place, for_rows, grounds_same, lifted, rows_alike, spent}
 
 -- a journal that is full leaves no turn
@@ -41,15 +44,16 @@ module _ (size : Size) (flows : List Flow) (changes : List Change) (key : FlowKe
       ap (λ (b : ℕ). home_at b (choices size.blocks b flows)) (sym block_is)
       ∙ ap (home_at block) (sym is.choices)
 
-  pub map_is : (group : ℕ) → group ≡ group_in part size.blocks key → group < 64 → map_in part group ≡ map_now size flows changes (home size.blocks flows key)
+  pub map_is : (group : ℕ) → group ≡ group_in part size.blocks key → group < 64 → IsPermutation (map_in part group) (map_now size flows changes (home size.blocks flows key))
   map_is group group_is low =
-      is.maps group low
-      ∙ ap (λ (g : ℕ). map_now size flows changes (record { block = block; group = g })) group_is
-      ∙ ap (map_now size flows changes) (sym home_is)
+      subst (IsPermutation (map_in part group))
+      (ap (λ (g : ℕ). map_now size flows changes (record { block = block; group = g })) group_is
+      ∙ ap (map_now size flows changes) (sym home_is))
+      (IsPermutation-sym (map_now size flows changes (record { block = block; group = group })) (map_in part group) (is.maps group low))
 
 module _ (size : Size) (flows : List Flow) (changes : List Change) (update : Update) (block : ℕ) (part : Part) (group : ℕ)
     (block_is : block ≡ (place size.blocks (updated_key update)).block) (is : IsPartOf size flows changes block part)
-    (group_is : group ≡ group_in part size.blocks (updated_key update)) (low : group < 64) where
+    (group_is : group ≡ group_in part size.blocks (updated_key update)) (low : group < 64) (kept : IsKeptPart (value_bits size.nodes) part) where
   at_is : home size.blocks flows (updated_key update) ≡ record { block = block; group = group }
   at_is =
       home_is size flows changes (updated_key update) block part block_is is
@@ -63,7 +67,9 @@ module _ (size : Size) (flows : List Flow) (changes : List Change) (update : Upd
   grounds_are =
       ap (λ (h : Home). grounds_in (value_bits size.nodes) (length changes) h (maps_now size flows changes h.block) update) at_is
       ∙ grounds_same (value_bits size.nodes) (length changes) (record { block = block; group = group })
-      (maps_now size flows changes block) (map_in part) update low (λ x there. sym (is.maps x there))
+      (maps_now size flows changes block) (map_in part) update low is.maps
+      (distinct_permuted (map_in part group) (maps_now size flows changes block group)
+      (IsPermutation-sym (maps_now size flows changes block group) (map_in part group) (is.maps group low)) (kept.distinct group))
 
   turns_are : (grounds size flows changes update).turns ≡ length changes
   unfolding grounds grounds_in
@@ -81,8 +87,7 @@ module _ (size : Size) (flows : List Flow) (changes : List Change) (update : Upd
         (refusal update (grounds size flows changes update)) refused for
         (λ why. for_place update (grounds size flows changes update) not_last refused (ap (refusal_of_place update) grounds_are ∙ why))
 
-    module _ (kept : IsKeptPart (value_bits size.nodes) part)
-        (there : refusal_of_place update (grounds_in (value_bits size.nodes) (length changes) (record { block = block; group = group }) (map_in part) update) ≡ None) where
+    module _ (there : refusal_of_place update (grounds_in (value_bits size.nodes) (length changes) (record { block = block; group = group }) (map_in part) update) ≡ None) where
       rows_are : refusal update (grounds size flows changes update) ≡ refusal_in_rows (value_bits size.nodes) part (change_at (record { block = block; group = group }) update)
       rows_are =
           for_rows update (grounds size flows changes update) not_last (ap (refusal_of_place update) grounds_are ∙ there)
@@ -107,21 +112,27 @@ module _ (size : Size) (flows : List Flow) (changes : List Change) (update : Upd
       → IsTurn size flows changes update turn
   unfolding content_of
   turn_is turn number change content fib =
+      let now : List Flow = map_now size flows changes (home size.blocks flows (updated_key update)) in
       let map = map_is size flows changes (updated_key update) block part block_is is group group_is low in
       record {
         number = number;
         change = change ∙ change_is;
-        content = ap (λ (m : List Flow). canonical (value_bits size.nodes) (entries (step m turn.change))) (sym map) ∙ content;
-        plan = fib ∙ ap (λ (m : List Flow). plan_of update (flow_at (updated_key update) m)) map;
+        content = sym
+            (canonical_alike (step (map_in part group) turn.change) (step now turn.change) (step_permuted (map_in part group) now map (kept.distinct group) turn.change)
+            (distinct-step (map_in part group) turn.change (kept.distinct group)) (value_bits size.nodes))
+            ∙ content;
+        plan = fib ∙ ap (plan_of update) (at_permuted (map_in part group) now map (kept.distinct group) (updated_key update));
       }
 
 -- what is found at a key is what its group's map has now
 pub found_now : (rib : Rib) (flows : List Flow) (key : FlowKey) (block group : ℕ) (found : Option Flow) → IsRibOf rib.size flows rib → IsOwned rib.size rib.number key
     → block ≡ (place rib.size.blocks key).block → (place rib.size.blocks key).block < rib.size.blocks
-    → group ≡ group_in (part_of rib block) rib.size.blocks key → group < 64 → found ≡ flow_at key (map_in (part_of rib block) group)
+    → group ≡ group_in (part_of rib block) rib.size.blocks key → group < 64 → AreDistinct (map_in (part_of rib block) group)
+    → found ≡ flow_at key (map_in (part_of rib block) group)
     → option_map node_and_record found ≡ option_map node_and_record (flow_at key (map_now rib.size flows rib.journal.changes (home rib.size.blocks flows key)))
-found_now rib flows key block group found is owned block_is below group_is low found_is =
+found_now rib flows key block group found is owned block_is below group_is low distinct found_is =
     let part = is.parts block (omega (arith, block_is)) (ap (λ (b : ℕ). b % rib.size.nodes) block_is ∙ owned) in
     ap (option_map node_and_record) found_is
-    ∙ ap (λ (m : List Flow). option_map node_and_record (flow_at key m))
-    (map_is rib.size flows rib.journal.changes key block (part_of rib block) block_is part group group_is low)
+    ∙ ap (option_map node_and_record)
+    (at_permuted (map_in (part_of rib block) group) (map_now rib.size flows rib.journal.changes (home rib.size.blocks flows key))
+    (map_is rib.size flows rib.journal.changes key block (part_of rib block) block_is part group group_is low) distinct key)

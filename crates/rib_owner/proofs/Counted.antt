@@ -1,5 +1,5 @@
 -- The keys and the rows of a block, when one of its groups gets another map.
-use Rattle.std.proofs.Common.{ℕ, zero, suc, replicate, ◌≡◌, ◌≢◌, ◌∙◌, ◌+◌, ◌-◌, ◌≤◌, ◌<◌, ◌++◌, ◌∷◌, List, [], length, get_or, set, refl, sym, ap, arith, length-append}
+use Rattle.std.proofs.Common.{ℕ, zero, suc, replicate, ◌≡◌, ◌≢◌, ◌+◌, ◌-◌, ◌≤◌, ◌<◌, List, [], length, get_or, set, refl, sym, ap, arith}
 use Rattle.std.proofs.lemmas.List.{get_or-set_other, get_or-set_same}
 use Rattle.flow_types.specs.declared.record.Flow.{Flow}
 use Rattle.rib_owner.specs.Acceptance.{keys_in}
@@ -63,24 +63,6 @@ map_within maps group low = omega (arith, keys_apart maps group low)
 pub rows_within : (part : Part) (group : ℕ) → group < 64 → get_or part.rows group 0 ≤ rows_taken part
 rows_within part group low = omega (arith, rows_apart part group low)
 
--- ---- one more flow in a group
-
-module _ (part : Part) (group : ℕ) (flow : Flow) (low : group < 64) (maps_there : length part.maps ≡ 64) where
-  pushed_here : get_or (set part.maps group (map_in part group ++ flow ∷ [])) group [] ≡ map_in part group ++ flow ∷ []
-  pushed_here = get_or-set_same part.maps group _ [] (omega arith)
-
-  pushed_beside : (x : ℕ) → x ≢ group → get_or (set part.maps group (map_in part group ++ flow ∷ [])) x [] ≡ map_in part x
-  pushed_beside x ne = get_or-set_other part.maps group x _ [] ne
-
-  pub keys_pushed : keys_in (map_in (record part { maps = set part.maps group (map_in part group ++ flow ∷ []) })) ≡ keys_in (map_in part) + 1
-  keys_pushed =
-      let maps : ℕ → List Flow = λ x. get_or (set part.maps group (map_in part group ++ flow ∷ [])) x [] in
-      let before = keys_apart (map_in part) group low in
-      let after = keys_apart maps group low in
-      let others = beside_same (λ (x : ℕ). length (maps x)) (λ (x : ℕ). length (map_in part x)) group 64 0 (λ x ne. ap length (pushed_beside x ne)) in
-      let here = ap length pushed_here ∙ length-append (map_in part group) (flow ∷ []) in
-      omega (arith, before, after, others, here)
-
 -- the rows are a matter of the numbers alone
 pub rows_same : (part other : Part) → part.rows ≡ other.rows → rows_taken part ≡ rows_taken other
 unfolding rows_taken
@@ -88,13 +70,10 @@ rows_same part other same = ap (λ (rs : List ℕ). rows_taken (record { choices
 
 -- ---- a block without flows
 
-empty_at : (n x : ℕ) → get_or (replicate n no_flows) x [] ≡ []
-empty_at zero x = refl
-empty_at (suc n) zero = refl
-empty_at (suc n) (suc x) = empty_at n x
-
-pub no_map : (maps : List (List Flow)) → maps ≡ replicate 64 [] → (x : ℕ) → get_or maps x [] ≡ []
-no_map maps none x = ap (λ (ms : List (List Flow)). get_or ms x []) none ∙ empty_at 64 x
+pub none_at_all : (n x : ℕ) → get_or (replicate n no_flows) x [] ≡ []
+none_at_all zero x = refl
+none_at_all (suc n) zero = refl
+none_at_all (suc n) (suc x) = none_at_all n x
 
 pub no_keys : (maps : ℕ → List Flow) → ((x : ℕ) → maps x ≡ []) → keys_in maps ≡ 0
 unfolding keys_in

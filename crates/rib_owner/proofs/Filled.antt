@@ -1,13 +1,14 @@
 -- An owner's blocks, from the images of a build and flow after flow.
-use Rattle.std.proofs.Common.{ℕ, add-zero, ◌≡◌, ◌≢◌, ◌∙◌, ◌+◌, ◌*◌, ◌/◌, ◌%◌, ◌<◌, ◌≤◌, Bool, true, false, cond, List, [], ◌∷◌, ◌++◌, length, take, get_or, set, replicate, Option, Some, None, refl, sym, ap, subst, arith, ⊎_elim, length-append}
-use Rattle.std.specs.Prelude.{◌==◌, filter, slice_index}
+use Rattle.std.proofs.Common.{ℕ, add-zero, ◌≡◌, ◌≢◌, ◌∙◌, ◌+◌, ◌*◌, ◌/◌, ◌%◌, ◌<◌, ◌≤◌, Bool, true, false, cond, List, [], ◌∷◌, ◌++◌, length, take, get_or, set, Option, Some, None, refl, sym, ap, subst, arith, ⊎_elim, length-append}
+use Rattle.std.specs.Prelude.{◌==◌, IsPermutation, filter, slice_index}
 use Rattle.std.specs.List.{slice_get}
 use Rattle.std.proofs.lemmas.Bool.{and_left, cases_eq, cases_lt, cases_order, eq-eqb, ne_eqb}
 use Rattle.std.proofs.Math.Nat.{add-mul-mod_self_left, mod-eq_of_lt, mul-le-mul_left}
-use Rattle.std.proofs.lemmas.List.{append-nil, get_or-set_other, get_or-set_same, get_or_append_left, get_or_default, get_or_past, get_or_push, length-set, length-replicate, length-take, take_all}
+use Rattle.std.proofs.lemmas.List.{append-nil, get_or-set_other, get_or-set_same, get_or_append_left, get_or_default, get_or_past, get_or_push, length-set, take_all}
 use Rattle.std.proofs.lemmas.List.Elements.{filter_more}
 use Rattle.std.proofs.lemmas.List.Kept.{AllPairs-filter}
-use Rattle.std.proofs.lemmas.List.Sums.{count_by-le-length, length-filter}
+use Rattle.std.proofs.lemmas.List.Sums.{length-filter, sum_by-take-le}
+use Rattle.std.proofs.lemmas.List.Sorted.{IsPermutation-append_left, IsPermutation-refl, IsPermutation-trans, length_permutation}
 use Rattle.std.proofs.lemmas.Option.{slice_get-get_or}
 use Rattle.flow_types.specs.declared.record.Flow.{Flow}
 use Rattle.flow_types.specs.Map.{AreDistinct}
@@ -31,7 +32,9 @@ use Rattle.rib_owner.specs.Acceptance.{keys_in}
 use Rattle.rib_owner.specs.Opening.{AreFilled, IsFilled, read_of}
 use Rattle.rib_owner.specs.Part.{IsKeptPart, IsOwner, rows_taken}
 use Rattle.rib_owner.specs.Rib.{IsRibOf, Part, map_in, map_now, no_part}
-use Rattle.rib_owner.proofs.Counted.{keys_pushed, no_keys, no_map}
+use Rattle.rib_owner.specs.Stock.{ChangesGroup}
+use Rattle.rib_owner.proofs.AnyOrder.{distinct_permuted, rows_alike_in}
+use Rattle.rib_owner.proofs.Counted.{keys_with, no_keys}
 use Rattle.rib_owner.proofs.Gathered.{nobody}
 use Rattle.rib_owner.proofs.Sums.{from_same}
 
@@ -58,17 +61,16 @@ none_of_none blocks block = refl
 
 module _ (size : Size) (flows : List Flow) (images : List Image) (build : IsBuild size flows images) (block : ℕ) (below : block < size.blocks) where
   -- a block of an image, before its flows are read
-  pub opened_block : (image : Image) (part : Part) → image ≡ get_or images block image → part.choices ≡ image.choices → part.maps ≡ replicate 64 []
-      → length part.rows ≡ 64 → ((group : ℕ) (content : GroupRecord) → group < 64 → slice_get image.records group ≡ Some content → slice_index part.rows group ≡ rows_in content)
+  pub opened_block : (image : Image) (part : Part) → image ≡ get_or images block image → part.choices ≡ image.choices → length part.maps ≡ 64
+      → ((x : ℕ) → map_in part x ≡ []) → length part.rows ≡ 64 → ((group : ℕ) (content : GroupRecord) → group < 64 → slice_get image.records group ≡ Some content → slice_index part.rows group ≡ rows_in content)
       → IsFilled size flows [] block part
-  opened_block image part image_is choices_are maps_are long rows_are =
+  opened_block image part image_is choices_are maps_are none long rows_are =
       let is : IsImage size flows block image = rw image_is (build.each block image below) in
-      let none : (x : ℕ) → map_in part x ≡ [] = no_map part.maps maps_are in
       record {
         choices = choices_are ∙ is.choices;
-        one_map_each = ap length maps_are ∙ length-replicate 64 empty_map;
+        one_map_each = maps_are;
         one_number_each = long;
-        maps = λ group low. none group;
+        maps = λ group low. rw (none group) (IsPermutation-refl empty_map);
         keys = no_keys (map_in part) none ∙ sym (none_of_none size.blocks block);
         rows = λ group low. rows-case size flows images build block below image.records group part.rows is.one_each low (is.records group low) (λ content there. rows_are group content low there);
       }
@@ -116,43 +118,67 @@ module _ (size : Size) (flows : List Flow) (i : ℕ) (inside : i < length flows)
     choices = is.choices;
     one_map_each = is.one_map_each;
     one_number_each = is.one_number_each;
-    maps = λ group low. is.maps group low ∙ sym (read_more group false (apart_test group ne) ∙ append-nil (read_of size flows (take i flows) block group));
+    maps = λ group low.
+        subst (λ (m : List Flow). IsPermutation m (map_in part group)) (sym (read_more group false (apart_test group ne) ∙ append-nil (read_of size flows (take i flows) block group))) (is.maps group low);
     keys = is.keys ∙ sym (flows_more false (ne_eqb _ block ne) ∙ add-zero _);
     rows = is.rows;
   }
 
   -- of this block
-  module _ (part : Part) (own : ℕ) (same : (place size.blocks (get_or flows i nobody).key).block ≡ block) (low : own < 64)
-      (own_is : own ≡ group_of part.choices (place size.blocks (get_or flows i nobody).key).bucket) (is : IsFilled size flows (take i flows) block part) where
-    pushed : Part
-    pushed = record part { maps = set part.maps own (map_in part own ++ get_or flows i nobody ∷ []) }
-
+  module _ (part new : Part) (own : ℕ) (same : (place size.blocks (get_or flows i nobody).key).block ≡ block) (low : own < 64)
+      (own_is : own ≡ group_of part.choices (place size.blocks (get_or flows i nobody).key).bucket)
+      (choices_same : new.choices ≡ part.choices) (rows_as_before : new.rows ≡ part.rows) (maps_changed : ChangesGroup part new own)
+      (map_more : IsPermutation (map_in part own ++ get_or flows i nobody ∷ []) (map_in new own))
+      (is : IsFilled size flows (take i flows) block part) where
     own_home : own ≡ group_of (choices size.blocks block flows) (place size.blocks (get_or flows i nobody).key).bucket
     own_home = own_is ∙ ap (λ (cs : List ℕ). group_of cs (place size.blocks (get_or flows i nobody).key).bucket) is.choices
 
-    at_own : get_or (set part.maps own (map_in part own ++ get_or flows i nobody ∷ [])) own [] ≡ map_in part own ++ get_or flows i nobody ∷ []
-    at_own = get_or-set_same part.maps own _ [] (omega (arith, is.one_map_each))
+    at_other : (x : ℕ) → x ≢ own → map_in new x ≡ map_in part x
+    at_other x ne = ap (λ (ms : List (List Flow)). get_or ms x []) maps_changed ∙ get_or-set_other part.maps own x (map_in new own) [] ne
 
-    at_other : (x : ℕ) → x ≢ own → get_or (set part.maps own (map_in part own ++ get_or flows i nobody ∷ [])) x [] ≡ map_in part x
-    at_other x ne = get_or-set_other part.maps own x _ [] ne
+    at_own : IsPermutation (read_of size flows (take (i + 1) flows) block own) (map_in new own)
+    at_own =
+        rw (read_more own true (here_test own own same own_home ∙ eq-eqb own own refl))
+        (IsPermutation-trans (read_of size flows (take i flows) block own ++ get_or flows i nobody ∷ []) (map_in part own ++ get_or flows i nobody ∷ []) (map_in new own)
+        (IsPermutation-append_left (get_or flows i nobody ∷ []) (read_of size flows (take i flows) block own) (map_in part own) (is.maps own low))
+        map_more)
 
-    pub filled_here : IsFilled size flows (take (i + 1) flows) block (record part { maps = set part.maps own (map_in part own ++ get_or flows i nobody ∷ []) })
+    keys_more : keys_in (map_in new) ≡ keys_in (map_in part) + 1
+    keys_more =
+        let whole = keys_with part own 0 (map_in new own) low is.one_map_each is.one_number_each in
+        let same_maps = ap (λ (ms : List (List Flow)). keys_in (λ (g : ℕ). get_or ms g [])) maps_changed in
+        let longer = length_permutation (map_in part own ++ get_or flows i nobody ∷ []) (map_in new own) map_more in
+        let one_more = length-append (map_in part own) (get_or flows i nobody ∷ []) in
+        omega (arith, whole, same_maps, longer, one_more)
+
+    pub filled_here : IsFilled size flows (take (i + 1) flows) block new
     filled_here = record {
-      choices = is.choices;
-      one_map_each = length-set part.maps own _ ∙ is.one_map_each;
-      one_number_each = is.one_number_each;
+      choices = choices_same ∙ is.choices;
+      one_map_each = ap length maps_changed ∙ length-set part.maps own (map_in new own) ∙ is.one_map_each;
+      one_number_each = ap length rows_as_before ∙ is.one_number_each;
       maps = λ group there. ⊎_elim
-          (λ (eq : group ≡ own).
-          ap (λ (x : ℕ). get_or (set part.maps own (map_in part own ++ get_or flows i nobody ∷ [])) x []) eq ∙ at_own
-          ∙ ap (λ (m : List Flow). m ++ get_or flows i nobody ∷ []) (ap (map_in part) (sym eq) ∙ is.maps group there)
-          ∙ sym (read_more group true (here_test group own same own_home ∙ eq-eqb own group (sym eq))))
+          (λ (eq : group ≡ own). rw eq at_own)
           (λ (ne : group ≢ own).
-          at_other group ne ∙ is.maps group there
-          ∙ sym (read_more group false (here_test group own same own_home ∙ ne_eqb own group (λ e. ne (sym e))) ∙ append-nil (read_of size flows (take i flows) block group)))
+          rw (
+            at_other group ne,
+            read_more group false (here_test group own same own_home ∙ ne_eqb own group (λ e. ne (sym e))),
+            append-nil (read_of size flows (take i flows) block group),
+          )
+          (is.maps group there))
           (cases_eq group own);
-      keys = keys_pushed part own (get_or flows i nobody) low is.one_map_each ∙ ap (λ (n : ℕ). n + 1) is.keys ∙ sym (flows_more true (eq-eqb _ block same));
-      rows = is.rows;
+      keys = keys_more ∙ ap (λ (n : ℕ). n + 1) is.keys ∙ sym (flows_more true (eq-eqb _ block same));
+      rows = λ group there. ap (λ (rs : List ℕ). slice_index rs group) rows_as_before ∙ is.rows group there;
     }
+
+  -- the block has fewer flows so far than in all
+  pub fewer_read : (place size.blocks (get_or flows i nobody).key).block ≡ block → length (flows_of size.blocks block (take i flows)) < length (flows_of size.blocks block flows)
+  unfolding flows_of
+  fewer_read same =
+      let more = flows_more true (eq-eqb _ block same) in
+      let part = length-filter (is_in size.blocks block) (take (i + 1) flows) in
+      let whole = length-filter (is_in size.blocks block) flows in
+      let less = sum_by-take-le (λ (f : Flow). cond (is_in size.blocks block f) 1 0) flows (i + 1) in
+      omega (arith, more, part, whole, less)
 
 -- ---- where an owner's blocks stand
 
@@ -182,6 +208,15 @@ same_place nodes number a b some same =
     (λ o. ⊎_elim (λ (less : a < b). absurd (same_place-less nodes a b some products less))
     (λ (less : b < a). absurd (same_place-less nodes b a some (sym products) less)) o)
     (cases_order a b)
+
+-- ---- the limits of a build
+
+within_of : (size : Size) (flows : List Flow) (past : Option PastLimit) → past ≡ None → TellsTheFirst size flows past → (block : ℕ) → block < size.blocks → IsWithin size flows block
+within_of size flows None none tells = tells
+within_of size flows (Some past) none tells = cc
+
+within_build : (size : Size) (flows : List Flow) (images : List Image) → IsBuild size flows images → (block : ℕ) → block < size.blocks → IsWithin size flows block
+within_build size flows images build = within_of size flows (past_limit size flows) build.within (names_the_first size flows)
 
 -- ---- all blocks of an owner
 
@@ -230,15 +265,15 @@ module _ (size : Size) (number : ℕ) (flows : List Flow) (some : 1 ≤ size.nod
     }
 
     -- a flow of this owner
-    pub filled_own : (index own : ℕ) → (place size.blocks (get_or flows i nobody).key).block % size.nodes ≡ number
+    pub filled_own : (index own : ℕ) (new : Part) → (place size.blocks (get_or flows i nobody).key).block % size.nodes ≡ number
         → index ≡ (place size.blocks (get_or flows i nobody).key).block / size.nodes → index < length parts → own < 64
         → own ≡ group_of (get_or parts index no_part).choices (place size.blocks (get_or flows i nobody).key).bucket
-        → AreFilled size number flows (take (i + 1) flows)
-        (set parts index (record (get_or parts index no_part) { maps = set (get_or parts index no_part).maps own (map_in (get_or parts index no_part) own ++ get_or flows i nobody ∷ []) }))
-    filled_own index own owned index_is there low own_is =
+        → new.choices ≡ (get_or parts index no_part).choices → new.rows ≡ (get_or parts index no_part).rows → ChangesGroup (get_or parts index no_part) new own
+        → IsPermutation (map_in (get_or parts index no_part) own ++ get_or flows i nobody ∷ []) (map_in new own)
+        → AreFilled size number flows (take (i + 1) flows) (set parts index new)
+    filled_own index own new owned index_is there low own_is choices_same rows_as_before maps_changed map_more =
         let block : ℕ = (place size.blocks (get_or flows i nobody).key).block in
         let part : Part = get_or parts index no_part in
-        let new : Part = record part { maps = set part.maps own (map_in part own ++ get_or flows i nobody ∷ []) } in
         let block_is : number + size.nodes * index ≡ block = ap (λ (n : ℕ). number + size.nodes * n) index_is ∙ block_at size.nodes number block some owned in
         let long : length (set parts index new) ≡ length parts = length-set parts index new in
         record {
@@ -247,7 +282,7 @@ module _ (size : Size) (number : ℕ) (flows : List Flow) (some : 1 ≤ size.nod
               (λ (same : at ≡ index).
               let is = so_far.each index there in
               rw (same, get_or-set_same parts index new no_part there)
-              (is.0, filled_here size flows i inside (number + size.nodes * index) part own (sym block_is) low own_is is.1))
+              (is.0, filled_here size flows i inside (number + size.nodes * index) part new own (sym block_is) low own_is choices_same rows_as_before maps_changed map_more is.1))
               (λ (other : at ≢ index).
               let is = so_far.each at (omega (arith, long)) in
               rw (get_or-set_other parts index at new no_part other) (
@@ -258,14 +293,16 @@ module _ (size : Size) (number : ℕ) (flows : List Flow) (some : 1 ≤ size.nod
               (cases_eq at index);
         }
 
-    -- a block has at most as many keys as flows were read
-    pub few_read : (index : ℕ) → index < length parts → keys_in (map_in (get_or parts index no_part)) ≤ i
-    unfolding flows_of
-    few_read index there =
-        let is = (so_far.each index there).1 in
-        let counted = length-filter (is_in size.blocks (number + size.nodes * index)) (take i flows) in
-        let few = count_by-le-length (is_in size.blocks (number + size.nodes * index)) (take i flows) in
-        omega (arith, is.keys, counted, few, length-take i flows)
+    -- the block of a flow has room for it
+    pub few_read : (images : List Image) → IsBuild size flows images → (index : ℕ) → index < length parts → index ≡ (place size.blocks (get_or flows i nobody).key).block / size.nodes
+        → (place size.blocks (get_or flows i nobody).key).block % size.nodes ≡ number → keys_in (map_in (get_or parts index no_part)) < 1536
+    few_read images build index there index_is owned =
+        let block : ℕ = (place size.blocks (get_or flows i nobody).key).block in
+        let block_is : number + size.nodes * index ≡ block = ap (λ (n : ℕ). number + size.nodes * n) index_is ∙ block_at size.nodes number block some owned in
+        let is = so_far.each index there in
+        let fewer = fewer_read size flows i inside (number + size.nodes * index) (sym block_is) in
+        let limits = within_build size flows images build (number + size.nodes * index) is.0 in
+        omega (arith, is.1.keys, fewer, limits.few)
 
   pub filled_none : (parts : List Part) → AreFilled size number flows [] parts → AreFilled size number flows (take 0 flows) parts
   filled_none parts is = is
@@ -276,40 +313,34 @@ module _ (size : Size) (number : ℕ) (flows : List Flow) (some : 1 ≤ size.nod
   -- ---- what the filled blocks are
 
   module _ (images : List Image) (build : IsBuild size flows images) (distinct : AreDistinct flows) (parts : List Part) (filled : AreFilled size number flows flows parts) where
-    within_of : (past : Option PastLimit) → past ≡ None → TellsTheFirst size flows past → (block : ℕ) → block < size.blocks → IsWithin size flows block
-    within_of None none tells = tells
-    within_of (Some past) none tells = cc
-
-    within : (block : ℕ) → block < size.blocks → IsWithin size flows block
-    within = within_of (past_limit size flows) build.within (names_the_first size flows)
-
     rows_total : (block : ℕ) (part : Part) → IsFilled size flows flows block part → rows_taken part ≡ needed size flows block
     unfolding rows_taken needed
     rows_total block part is =
         from_same (λ (x : ℕ). slice_index part.rows x)
         (λ (x : ℕ). rows_needed (value_bits size.nodes) (entries (opening size.blocks flows (record { block = block; group = x })))) 64 0 (λ x low high. is.rows x (omega arith))
 
-    map_is : (block : ℕ) (part : Part) (group : ℕ) → IsFilled size flows flows block part → group < 64 → map_in part group ≡ opening size.blocks flows (record { block = block; group = group })
+    map_is : (block : ℕ) (part : Part) (group : ℕ) → IsFilled size flows flows block part → group < 64 → IsPermutation (opening size.blocks flows (record { block = block; group = group })) (map_in part group)
     unfolding opening
     map_is block part group is low = is.maps group low
 
     distinct_in : (block : ℕ) (part : Part) → IsFilled size flows flows block part → (group : ℕ) → AreDistinct (map_in part group)
     distinct_in block part is group = ⊎_elim
         (λ (low : group < 64).
-        subst AreDistinct (sym (is.maps group low))
+        distinct_permuted (read_of size flows flows block group) (map_in part group) (is.maps group low)
         (AllPairs-filter HaveOtherKeys (λ (f : Flow). is_home (home size.blocks flows f.key) (record { block = block; group = group })) flows distinct))
         (λ (high : 64 ≤ group). subst AreDistinct (sym (get_or_past part.maps group empty_map (omega (arith, is.one_map_each)))) (λ a b d below inside. absurd (omega arith)))
         (cases_lt group 64)
 
     kept_of : (block : ℕ) (part : Part) → block < size.blocks → IsFilled size flows flows block part → IsKeptPart (value_bits size.nodes) part
     kept_of block part low is =
-        let limits = within block low in
+        let limits = within_build size flows images build block low in
         record {
           one_map_each = is.one_map_each;
           one_number_each = is.one_number_each;
           distinct = distinct_in block part is;
           few = omega (arith, is.keys, limits.few);
-          rows = λ group there. is.rows group there ∙ ap (λ (m : List Flow). rows_needed (value_bits size.nodes) (entries m)) (sym (map_is block part group is there));
+          rows = λ group there. is.rows group there
+              ∙ rows_alike_in (value_bits size.nodes) (opening size.blocks flows (record { block = block; group = group })) (map_in part group) (map_is block part group is there);
           few_rows = omega (arith, rows_total block part is, limits.few_rows);
         }
 
@@ -336,9 +367,10 @@ module _ (size : Size) (number : ℕ) (flows : List Flow) (some : 1 ≤ size.nod
           record {
             choices = is.choices;
             maps = λ group within_group.
-                map_is block (get_or parts (block / size.nodes) no_part) group is within_group
-                ∙ first_map (record { block = block; group = group })
-                ∙ ap (λ (cs : List Change). map_now size flows cs (record { block = block; group = group })) (sym none);
+                subst (λ (m : List Flow). IsPermutation m (map_in (get_or parts (block / size.nodes) no_part) group))
+                (first_map (record { block = block; group = group })
+                ∙ ap (λ (cs : List Change). map_now size flows cs (record { block = block; group = group })) (sym none))
+                (map_is block (get_or parts (block / size.nodes) no_part) group is within_group);
           };
     }
 
@@ -346,7 +378,3 @@ module _ (size : Size) (number : ℕ) (flows : List Flow) (some : 1 ≤ size.nod
 pub group_below : (choices : List ℕ) (bucket : ℕ) → group_of choices bucket < 64
 unfolding candidate
 group_below choices bucket = omega arith
-
--- a part with a flow put behind those of its bucket's group
-abbrev pub pushed_part : Part → (bucket : ℕ) → Flow → Part
-pushed_part part bucket flow = record part { maps = set part.maps (group_of part.choices bucket) (map_in part (group_of part.choices bucket) ++ flow ∷ []) }

@@ -1,15 +1,11 @@
--- The entries of the flows of other keys, one flow after another.
-use Rattle.std.proofs.Common.{ℕ, ◌≡◌, ◌≢◌, ◌∙◌, ◌+◌, ◌<◌, ◌≤◌, Bool, true, false, cond, not, List, [], ◌∷◌, ◌++◌, length, take, get_or, Option, Some, None, refl, sym, ap}
-use Rattle.std.specs.Prelude.{filter}
-use Rattle.std.proofs.lemmas.Bool.{eq-eqb, ne_eqb}
-use Rattle.std.proofs.lemmas.List.{append-nil, map-append, take_all}
-use Rattle.std.proofs.lemmas.List.Elements.{filter_more}
+-- The entries of a map after a change.
+use Rattle.std.proofs.Common.{ℕ, ◌≡◌, ◌≢◌, ◌∙◌, List, [], ◌∷◌, ◌++◌, Option, Some, None, refl, sym, ap}
+use Rattle.std.proofs.lemmas.List.{map-append}
 use Rattle.flow_types.specs.declared.key.FlowKey.{FlowKey}
 use Rattle.flow_types.specs.declared.record.Flow.{Flow}
 use Rattle.flow_types.specs.Key.{number}
 use Rattle.flow_types.specs.declared.record.Record.{Record}
 use Rattle.flow_types.specs.Map.{AreDistinct, put, without}
-use Rattle.flow_types.proofs.KeyedFlows.{is_other}
 use Rattle.group_search.specs.declared.entry.Entry.{Entry}
 use Rattle.group_search.specs.Records.{entries, entry_of}
 use Rattle.flow_types.specs.Map.{HaveDistinctKeys}
@@ -26,31 +22,6 @@ nobody = record {
   node = 0;
   info = record { teid = 0; base = 0 };
 }
-
-module _ (key : FlowKey) (flows : List Flow) (i : ℕ) (inside : i < length flows) where
-  gathered_more : (other : Bool) → is_other key (get_or flows i nobody) ≡ other
-      → entries (without key (take (i + 1) flows)) ≡ entries (without key (take i flows)) ++ cond other (entry_of (get_or flows i nobody) ∷ []) []
-  unfolding without
-  gathered_more true e =
-      ap entries (filter_more (is_other key) flows i nobody inside ∙ ap (λ (b : Bool). filter (is_other key) (take i flows) ++ cond b (get_or flows i nobody ∷ []) []) e)
-      ∙ map-append entry_of (filter (is_other key) (take i flows)) (get_or flows i nobody ∷ [])
-  gathered_more false e =
-      ap entries (filter_more (is_other key) flows i nobody inside ∙ ap (λ (b : Bool). filter (is_other key) (take i flows) ++ cond b (get_or flows i nobody ∷ []) []) e)
-      ∙ map-append entry_of (filter (is_other key) (take i flows)) []
-
-  pub gathered_yes : number (get_or flows i nobody).key ≢ number key
-      → entries (without key (take (i + 1) flows)) ≡ entries (without key (take i flows)) ++ entry_of (get_or flows i nobody) ∷ []
-  gathered_yes ne = gathered_more true (ap not (ne_eqb _ _ ne))
-
-  pub gathered_no : number (get_or flows i nobody).key ≡ number key → entries (without key (take (i + 1) flows)) ≡ entries (without key (take i flows))
-  gathered_no same = gathered_more false (ap not (eq-eqb _ _ same)) ∙ append-nil (entries (without key (take i flows)))
-
-pub gathered_none : (key : FlowKey) → entries (without key []) ≡ []
-unfolding without
-gathered_none key = refl
-
-pub gathered_all : (key : FlowKey) (flows : List Flow) (i : ℕ) → length flows ≤ i → entries (without key (take i flows)) ≡ entries (without key flows)
-gathered_all key flows i past = ap (λ (fs : List Flow). entries (without key fs)) (take_all i flows past)
 
 -- ---- the change's own key
 

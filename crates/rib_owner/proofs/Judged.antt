@@ -1,11 +1,12 @@
 -- The judgement of an update, case by case, and by the maps that a block has now.
-use Rattle.std.proofs.Common.{ℕ, ◌≡◌, ◌≢◌, ◌∙◌, ◌+◌, ◌-◌, ◌≤◌, ◌<◌, Bool, true, false, cond, List, length, Option, Some, None, is_some, refl, ap, arith}
-use Rattle.std.specs.Prelude.{◌==◌, nat_lt}
+use Rattle.std.proofs.Common.{ℕ, ◌≡◌, ◌≢◌, ◌∙◌, ◌+◌, ◌-◌, ◌≤◌, ◌<◌, Bool, true, false, cond, List, length, Option, Some, None, is_some, refl, sym, ap, arith}
+use Rattle.std.specs.Prelude.{◌==◌, IsPermutation, nat_lt}
 use Rattle.std.specs.Option.{option_or}
+use Rattle.std.proofs.lemmas.List.Sorted.{length_permutation}
 use Rattle.std.proofs.lemmas.Bool.{le-ltb, eqb-false, eq-eqb, ne_eqb}
 use Rattle.flow_types.specs.declared.key.FlowKey.{FlowKey}
 use Rattle.flow_types.specs.declared.record.Flow.{Flow}
-use Rattle.flow_types.specs.Map.{flow_at}
+use Rattle.flow_types.specs.Map.{AreDistinct, flow_at}
 use Rattle.group_search.specs.Build.{rows_needed}
 use Rattle.group_search.specs.Canon.{is_separable}
 use Rattle.group_search.specs.Home.{Home}
@@ -19,6 +20,7 @@ use Rattle.rib_owner.specs.Acceptance.{Grounds, change_at, free_beside, grounds_
 use Rattle.rib_owner.specs.Judging.{IsFor, refusal_in_rows}
 use Rattle.rib_owner.specs.Part.{IsKeptPart}
 use Rattle.rib_owner.specs.Rib.{Part, map_in}
+use Rattle.rib_owner.proofs.AnyOrder.{at_permuted, rows_alike_in, separable_alike, step_permuted}
 use Rattle.rib_owner.proofs.Rows.{left_is_free, length-entries}
 use Rattle.rib_owner.proofs.Steps.{step_known, step_most}
 use Rattle.rib_owner.proofs.Sums.{beside_below, from_same}
@@ -29,27 +31,30 @@ grounds_of : (turns block : ℕ) → Bool → (keys : ℕ) → Bool → (needed 
 grounds_of turns block known keys served needed free =
     record { turns = turns; block = block; known = known; keys = keys; served = served; needed = needed; free = free }
 
-keys_same : (maps others : ℕ → List Flow) → ((x : ℕ) → x < 64 → maps x ≡ others x) → keys_in maps ≡ keys_in others
+keys_same : (maps others : ℕ → List Flow) → ((x : ℕ) → x < 64 → IsPermutation (maps x) (others x)) → keys_in maps ≡ keys_in others
 unfolding keys_in
-keys_same maps others same = from_same (λ (x : ℕ). length (maps x)) (λ (x : ℕ). length (others x)) 64 0 (λ x low high. ap length (same x (omega arith)))
+keys_same maps others same = from_same (λ (x : ℕ). length (maps x)) (λ (x : ℕ). length (others x)) 64 0 (λ x low high. sym (length_permutation (maps x) (others x) (same x (omega arith))))
 
-free_same : (bits group : ℕ) (maps others : ℕ → List Flow) → ((x : ℕ) → x < 64 → maps x ≡ others x) → free_beside bits maps group ≡ free_beside bits others group
+free_same : (bits group : ℕ) (maps others : ℕ → List Flow) → ((x : ℕ) → x < 64 → IsPermutation (maps x) (others x)) → free_beside bits maps group ≡ free_beside bits others group
 unfolding free_beside
 free_same bits group maps others same =
     ap (λ (n : ℕ). 64 - n)
     (beside_below (λ (x : ℕ). rows_needed bits (entries (maps x))) (λ (x : ℕ). rows_needed bits (entries (others x))) group 64 0
-    (λ x low high. ap (λ (m : List Flow). rows_needed bits (entries m)) (same x (omega arith))))
+    (λ x low high. rows_alike_in bits (maps x) (others x) (same x (omega arith))))
 
-pub grounds_same : (bits turns : ℕ) (at : Home) (maps others : ℕ → List Flow) (update : Update) → at.group < 64 → ((x : ℕ) → x < 64 → maps x ≡ others x)
-    → grounds_in bits turns at maps update ≡ grounds_in bits turns at others update
+-- so do maps with the same flows, in some order
+pub grounds_same : (bits turns : ℕ) (at : Home) (maps others : ℕ → List Flow) (update : Update) → at.group < 64 → ((x : ℕ) → x < 64 → IsPermutation (maps x) (others x))
+    → AreDistinct (maps at.group) → grounds_in bits turns at maps update ≡ grounds_in bits turns at others update
 unfolding grounds_in grounds_of
-grounds_same bits turns at maps others update low same =
+grounds_same bits turns at maps others update low same distinct =
+    let before = maps at.group in
+    let after = step (maps at.group) (change_at at update) in
     let here = same at.group low in
-    let with : List Flow → ℕ → ℕ → Grounds = λ m keys free.
-    grounds_of turns at.block (is_some (flow_at (updated_key update) m)) keys (is_separable bits (entries (step m (change_at at update)))) (length (step m (change_at at update))) free in
-    ap (λ (m : List Flow). with m (keys_in maps) (free_beside bits maps at.group)) here
-    ∙ ap (λ (k : ℕ). with (others at.group) k (free_beside bits maps at.group)) (keys_same maps others same)
-    ∙ ap (λ (f : ℕ). with (others at.group) (keys_in others) f) (free_same bits at.group maps others same)
+    let stepped = step_permuted (maps at.group) (others at.group) here distinct (change_at at update) in
+    let known = ap is_some (at_permuted (maps at.group) (others at.group) here distinct (updated_key update)) in
+    let served = separable_alike bits (step (maps at.group) (change_at at update)) (step (others at.group) (change_at at update)) stepped in
+    let long = sym (length_permutation (step (maps at.group) (change_at at update)) (step (others at.group) (change_at at update)) stepped) in
+    rw (known, keys_same maps others same, served, long, free_same bits at.group maps others same) refl
 
 -- ---- the cause of a refusal, lifted from one case to all
 

@@ -1,8 +1,10 @@
 pub mod Sums
+pub mod Stocked
 pub mod Steps
 pub mod Counted
 pub mod Gathered
 pub mod Rows
+pub mod AnyOrder
 pub mod Judged
 pub mod Kept
 pub mod Standing

@@ -15,7 +15,7 @@ sum_from f from n = sum (map f (range_with_len from n))
 abbrev pub sum_beside : (ℕ → ℕ) → (group from n : ℕ) → ℕ
 sum_beside f group from n = sum (map f (filter (is_not group) (range_with_len from n)))
 
-sum-cons : (x : ℕ) (xs : List ℕ) → sum (x ∷ xs) ≡ x + sum xs
+pub sum-cons : (x : ℕ) (xs : List ℕ) → sum (x ∷ xs) ≡ x + sum xs
 sum-cons x xs = sum_by-cons (λ (y : ℕ). y) x xs
 
 -- of numbers past the group none is left out

@@ -3,4 +3,5 @@ pub mod Acceptance
 pub mod Turn
 pub mod Part
 pub mod Judging
+pub mod Stock
 pub mod Opening

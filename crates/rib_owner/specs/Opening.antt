@@ -1,5 +1,5 @@
 -- How far an owner is filled with the flows with which a cluster is opened.
-use Rattle.std.specs.Prelude.{◌≡◌, ℕ, ◌+◌, ◌*◌, ◌<◌, ◌≤◌, List, length, filter, slice_index, slice_index_or}
+use Rattle.std.specs.Prelude.{◌≡◌, ℕ, ◌+◌, ◌*◌, ◌<◌, ◌≤◌, List, IsPermutation, length, filter, slice_index, slice_index_or}
 use Rattle.flow_types.specs.declared.record.Flow.{Flow}
 use Rattle.flow_types.specs.Size.{Size, value_bits}
 use Rattle.group_search.specs.Build.{rows_needed}
@@ -12,12 +12,12 @@ use Rattle.rib_owner.specs.Rib.{Part, map_in, no_part}
 abbrev pub read_of : Size → List Flow → List Flow → (block group : ℕ) → List Flow
 read_of size flows read block group = filter (λ (flow : Flow). is_home (home size.blocks flows flow.key) (record { block = block; group = group })) read
 
--- the block has the choices and the rows that the flows give it, and those of its flows that were read
+-- the block has the choices and the rows that the flows give it, and those of its flows that were read, in some order
 pub record IsFilled (size : Size) (flows read : List Flow) (block : ℕ) (part : Part) : Type 0 where
   pub choices : part.choices ≡ choices size.blocks block flows
   pub one_map_each : length part.maps ≡ 64
   pub one_number_each : length part.rows ≡ 64
-  pub maps : (group : ℕ) → group < 64 → map_in part group ≡ read_of size flows read block group
+  pub maps : (group : ℕ) → group < 64 → IsPermutation (read_of size flows read block group) (map_in part group)
   pub keys : keys_in (map_in part) ≡ length (flows_of size.blocks block read)
   pub rows : (group : ℕ) → group < 64 → slice_index part.rows group ≡ rows_needed (value_bits size.nodes) (entries (opening size.blocks flows (record { block = block; group = group })))
 

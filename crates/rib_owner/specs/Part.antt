@@ -17,13 +17,6 @@ rows_taken part = sum (map (λ (group : ℕ). slice_index part.rows group) (rang
 unfoldable pub rows_free : Part → (group : ℕ) → ℕ
 rows_free part group = 64 - sum (map (λ (other : ℕ). slice_index part.rows other) (filter (λ (other : ℕ). not (other == group)) (range_with_len 0 64)))
 
--- the block has a map and a number of rows for each group, and its totals are kept
-pub record IsCounted (kept_keys kept_used : ℕ) (part : Part) : Type 0 where
-  pub one_map_each : length part.maps ≡ 64
-  pub one_number_each : length part.rows ≡ 64
-  pub keys : kept_keys ≡ keys_in (map_in part)
-  pub used : kept_used ≡ rows_taken part
-
 -- the groups are maps within the block's limits, and each takes as many rows as it needs
 pub record IsKeptPart (bits : ℕ) (part : Part) : Type 0 where
   pub one_map_each : length part.maps ≡ 64

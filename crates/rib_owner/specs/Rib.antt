@@ -1,5 +1,5 @@
 -- The flows that an owner keeps, by the groups of its blocks.
-use Rattle.std.specs.Prelude.{◌≡◌, ◌==◌, Bool, ℕ, ◌/◌, ◌%◌, ◌<◌, List, [], slice_index_or, Option}
+use Rattle.std.specs.Prelude.{◌≡◌, ◌==◌, Bool, ℕ, ◌/◌, ◌%◌, ◌<◌, List, [], IsPermutation, slice_index_or, Option}
 use Rattle.flow_types.specs.declared.key.FlowKey.{FlowKey}
 use Rattle.flow_types.specs.declared.record.Flow.{Flow}
 use Rattle.flow_types.specs.declared.record.Record.{Record}
@@ -57,10 +57,11 @@ node_and_record flow = (flow.node, flow.info)
 unfoldable pub map_now : Size → List Flow → List Change → Home → List Flow
 map_now size flows changes at = now (opening size.blocks flows at) changes at
 
--- a block whose buckets have the groups that the flows give them, and whose groups have their maps after the changes
+-- a block whose buckets have the groups that the flows give them, and whose groups have the flows of their maps after the
+-- changes, in some order
 pub record IsPartOf (size : Size) (flows : List Flow) (changes : List Change) (block : ℕ) (part : Part) : Type 0 where
   pub choices : part.choices ≡ choices size.blocks block flows
-  pub maps : (group : ℕ) → group < 64 → map_in part group ≡ map_now size flows changes (record { block = block; group = group })
+  pub maps : (group : ℕ) → group < 64 → IsPermutation (map_now size flows changes (record { block = block; group = group })) (map_in part group)
 
 -- the owner was opened with these flows, and each of its blocks stands as they and its journal say
 pub record IsRibOf (size : Size) (flows : List Flow) (rib : Rib) : Type 0 where

@@ -1,6 +1,7 @@
-ghost use Rattle.std.specs.Prelude.{◌≡◌, ◌+◌, ◌-◌, ◌<◌, ◌≤◌, ◌^◌, List, [], ◌∷◌, ◌++◌, ℕ, OnOk, OnErr, IfOk, Some, length, replicate, slice_index, slice_set};
+ghost use Rattle.std.specs.Prelude.{◌≡◌, ◌+◌, ◌-◌, ◌<◌, ◌≤◌, ◌^◌, List, [], ◌∷◌, ◌++◌, ℕ, IsPermutation, OnOk, IfSome, Some, length, option_map, replicate, slice_index, slice_set};
 ghost use Rattle.std.specs.List.{slice_get};
-ghost use Rattle.flow_types.specs.Map.{flow_at};
+ghost use Rattle.bucket_arena.specs.Arena.{bucket_of, item_count};
+ghost use Rattle.flow_types.specs.Map.{AreDistinct, flow_at, without};
 ghost use Rattle.group_search.specs.declared.record.GroupRecord.{GroupRecord};
 ghost use Rattle.group_search.specs.Canon.{rows_in};
 ghost use Rattle.group_search.specs.Home.{group_of};
@@ -9,63 +10,81 @@ ghost use Rattle.group_history.specs.Change.{step};
 ghost use Rattle.rib_owner.specs.Acceptance.{keys_in};
 ghost use Rattle.rib_owner.specs.Part.{rows_free, rows_taken};
 ghost use Rattle.rib_owner.specs.Rib.{map_in};
+ghost use Rattle.rib_owner.specs.Stock.{ChangesGroup, bucket_for, flows_in, part_in};
 
-use crate::map::GroupMap;
-use block_layout::{Choices, GROUPS};
+use crate::gathering::{add_others, entry};
+use crate::item::Item;
+use block_layout::{BUCKETS, Choices, GROUPS};
+use bucket_arena::Arena;
 use flow_types::{Flow, FlowKey};
 use group_history::Change;
 use group_search::{BlockImage, Entry, MOST_ROWS};
+use out_of_memory::OutOfMemory;
 use std::alloc::{AllocError, Global};
 use std::marker::Model;
 
-/// The flows of one block, by its groups, and how many rows each group takes.
+/// The flows of one block, by its buckets, and how many rows each group takes.
 ///
 /// The number of keys and of rows in all are kept, so that no question walks along the block.
-#[derive(Debug, Drop)]
+#[derive(Drop)]
 pub(crate) struct OwnedBlock {
     choices: Choices,
-    maps: Vec<GroupMap>,
+    arena: Arena<Item>,
     rows: [u8; GROUPS as usize],
-    keys: usize,
+    keys: u32,
     used: usize,
 }
 
 impl Model for OwnedBlock {
-    ghost use Rattle.rib_owner.specs.Rib.{Part};
-    ghost use Rattle.rib_owner.specs.Part.{IsCounted};
+    ghost use Rattle.rib_owner.specs.Stock.{IsCounted, Stock};
 
-    ghost Value = { Part };
+    ghost Value = { Stock };
 
-    ghost view = { λ b. record { choices = b.choices; maps = b.maps.items; rows = b.rows } };
+    ghost view = { λ b. record { choices = b.choices; arena = b.arena; rows = b.rows } };
 
-    ghost invariant = { λ b. IsCounted b.keys b.used (record { choices = b.choices; maps = b.maps.items; rows = b.rows }) };
+    ghost invariant = { λ b. IsCounted b.keys b.used (record { choices = b.choices; arena = b.arena; rows = b.rows }) };
+}
+
+/// Where a key stands in its bucket, and its flow.
+#[derive(Clone, Copy)]
+pub(crate) struct Found {
+    pub(crate) place: u32,
+    pub(crate) flow: Flow,
+}
+
+/// The flow that was found, if one was.
+pub(crate) fn flow_of(found: Option<Found>) -> Option<Flow>
+    ensures { result ≡ option_map (λ found. found.flow) found }
+{
+    match found {
+        Some(found) => Some(found.flow),
+        None => None,
+    }
 }
 
 impl OwnedBlock {
     /// The block of an image without its flows, which are still to be pushed. Its groups take the rows that the image
-    /// says.
-    pub(crate) fn open(alloc: Global, image: &BlockImage) -> Result<OwnedBlock, AllocError>
-        ensures choices { IfOk result (λ block. block.choices ≡ image.now.choices) }
-        ensures maps { IfOk result (λ block. block.maps ≡ replicate 64 []) }
-        ensures numbers { IfOk result (λ block. length block.rows ≡ 64) }
-        ensures rows { IfOk result (λ block. (group : ℕ) (content : GroupRecord) → group < 64 →
-            slice_get image.now.records group ≡ Some content → slice_index block.rows group ≡ rows_in content) }
+    /// says. It takes no memory.
+    pub(crate) fn open(alloc: Global, image: &BlockImage) -> OwnedBlock
+        ensures choices { result.choices ≡ image.now.choices }
+        ensures buckets { result.arena.buckets ≡ replicate 256 [] }
+        ensures numbers { length result.rows ≡ 64 }
+        ensures rows { (group : ℕ) (content : GroupRecord) → group < 64 →
+            slice_get image.now.records group ≡ Some content → slice_index result.rows group ≡ rows_in content }
     {
-        let mut maps = Vec::with_capacity(alloc, GROUPS as usize)?;
         let mut rows = [0; GROUPS as usize];
         let mut used = 0;
         'groups: for group in 0..GROUPS {
-            maps.push(GroupMap::new(alloc))?;
             rows[group as usize] = image.record(group).rows();
             used += rows[group as usize] as usize;
         }
-        Ok(OwnedBlock {
+        OwnedBlock {
             choices: *image.choices(),
-            maps,
+            arena: Arena::new(alloc),
             rows,
             keys: 0,
             used,
-        })
+        }
     }
 
     /// The group, 0..=63, of a bucket.
@@ -76,29 +95,69 @@ impl OwnedBlock {
         self.choices.group(bucket)
     }
 
-    /// Puts a flow behind those of its bucket's group.
-    pub(crate) fn push(&mut self, bucket: u8, flow: Flow) -> Result<(), AllocError>
-        requires { keys_in (map_in self.old) < 2 ^ 64 - 1 }
-        ensures { OnOk result (self.new ≡ (let group = group_of self.old.choices bucket in
-            record self.old { maps = slice_set self.old.maps group (map_in self.old group ++ flow ∷ []) })) }
+    /// Puts a flow of the block behind those of its bucket.
+    pub(crate) fn push(&mut self, bucket: u8, flow: Flow) -> Result<(), OutOfMemory>
+        requires bucket { bucket_for flow.key ≡ bucket }
+        requires few { keys_in (map_in (part_in self.old)) < 1536 }
+        ensures choices { OnOk result (self.new.choices ≡ self.old.choices) }
+        ensures rows { OnOk result (self.new.rows ≡ self.old.rows) }
+        ensures maps { OnOk result (ChangesGroup (part_in self.old) (part_in self.new) (group_of self.old.choices bucket)) }
+        ensures map { OnOk result (let group = group_of self.old.choices bucket in
+            IsPermutation (map_in (part_in self.old) group ++ flow ∷ []) (map_in (part_in self.new) group)) }
     {
-        let group = self.choices.group(bucket) as usize;
-        self.maps[group].push(flow)?;
-        self.keys += 1;
+        let _ = &self.choices;
+        self.reserve()?;
+        self.put(bucket, flow);
         Ok(())
     }
 
-    /// The flow of a key of a group.
-    pub(crate) fn find(&self, group: u8, key: FlowKey) -> Option<Flow>
-        requires { group < 64 }
-        ensures { result ≡ flow_at key (map_in self.now group) }
+    /// Makes room for one more flow.
+    pub(crate) fn reserve(&mut self) -> Result<(), OutOfMemory>
+        requires { keys_in (map_in (part_in self.old)) ≤ 1536 }
+        ensures choices { self.new.choices ≡ self.old.choices }
+        ensures rows { self.new.rows ≡ self.old.rows }
+        ensures buckets { self.new.arena.buckets ≡ self.old.arena.buckets }
+        ensures spare { OnOk result (0 < self.new.arena.spare) }
     {
-        self.maps[group as usize].find(key)
+        self.arena.reserve(1)
+    }
+
+    /// Puts a flow behind those of its bucket. There is room for it.
+    fn put(&mut self, bucket: u8, flow: Flow)
+        requires bucket { bucket_for flow.key ≡ bucket }
+        requires spare { 0 < self.old.arena.spare }
+        requires few { item_count self.old.arena < 2 ^ 32 - 1 }
+        ensures choices { self.new.choices ≡ self.old.choices }
+        ensures rows { self.new.rows ≡ self.old.rows }
+        ensures buckets { self.new.arena.buckets ≡ slice_set self.old.arena.buckets bucket (bucket_of self.old.arena bucket ++ flow ∷ []) }
+    {
+        self.arena.push(bucket, Item::of(flow));
+        self.keys += 1;
+    }
+
+    /// A key of the bucket: where it stands, and its flow.
+    pub(crate) fn find(&self, bucket: u8, key: FlowKey) -> Option<Found>
+        requires { bucket_for key ≡ bucket }
+        ensures flow { option_map (λ found. found.flow) result ≡ flow_at key (bucket_of self.now.arena bucket) }
+        ensures place { IfSome result (λ found. slice_get (bucket_of self.now.arena bucket) found.place ≡ Some found.flow) }
+        ensures in_group { flow_at key (bucket_of self.now.arena bucket) ≡ flow_at key (map_in (part_in self.now) (group_of self.now.choices bucket)) }
+    {
+        let _keys = self.keys;
+        let number = key.number();
+        let mut place = 0;
+        'items: for item in self.arena.iter(bucket) {
+            let flow = item.flow();
+            if flow.key.number() == number {
+                return Some(Found { place, flow });
+            }
+            place += 1;
+        }
+        None
     }
 
     /// How many keys the block has.
-    pub(crate) fn keys(&self) -> usize
-        ensures { result ≡ keys_in (map_in self.now) }
+    pub(crate) fn keys(&self) -> u32
+        ensures { result ≡ keys_in (map_in (part_in self.now)) }
     {
         self.keys
     }
@@ -106,14 +165,14 @@ impl OwnedBlock {
     /// How many of the 64 rows the groups other than this one leave.
     pub(crate) fn rows_left(&self, group: u8) -> usize
         requires in_range { group < 64 }
-        requires few { rows_taken self.now ≤ 64 }
-        ensures value { result ≡ rows_free self.now group }
+        requires few { rows_taken (part_in self.now) ≤ 64 }
+        ensures value { result ≡ rows_free (part_in self.now) group }
         ensures most { result ≤ 64 }
     {
         MOST_ROWS - (self.used - self.rows[group as usize] as usize)
     }
 
-    /// Puts the entries of a group's map after a change into the room.
+    /// Puts the entries of a group's map after a change into the room. What it held goes.
     pub(crate) fn gather(
         &self,
         group: u8,
@@ -121,36 +180,91 @@ impl OwnedBlock {
         room: &mut Vec<Entry>,
     ) -> Result<(), AllocError>
         requires { group < 64 }
-        ensures { OnOk result (room.new.items ≡ entries (step (map_in self.now group) change.now)) }
+        ensures { OnOk result (room.new.items ≡ entries (step (map_in (part_in self.now) group) change.now)) }
     {
-        self.maps[group as usize].gather(change, room)
+        room.clear();
+        self.gather_others(group, change.key, room)?;
+        if let Some((node, _)) = change.to {
+            room.push(entry(change.key, node))?;
+        }
+        Ok(())
     }
 
-    /// The map of a group after a change.
-    pub(crate) fn changed(
+    /// Puts the entries of a group's flows of all keys but this one into the empty room.
+    fn gather_others(
         &self,
-        alloc: Global,
         group: u8,
-        change: &Change,
-    ) -> Result<GroupMap, AllocError>
-        requires { group < 64 }
-        ensures { IfOk result (λ map. map ≡ step (map_in self.now group) change.now) }
+        key: FlowKey,
+        room: &mut Vec<Entry>,
+    ) -> Result<(), AllocError>
+        requires { room.old.items ≡ [] }
+        ensures { OnOk result (room.new.items ≡ entries (without key (flows_in self.now.choices self.now.arena.buckets group))) }
     {
-        self.maps[group as usize].changed(alloc, change)
+        'buckets: for number in 0..BUCKETS {
+            let bucket = number as u8;
+            if self.choices.group(bucket) == group {
+                add_others(self.arena.iter(bucket), key, room)?;
+            }
+        }
+        Ok(())
     }
 
-    /// Gives a group another map, which takes so many rows.
-    pub(crate) fn replace(&mut self, group: u8, map: GroupMap, rows: u8)
-        requires in_range { group < 64 }
-        requires few { keys_in (map_in self.old) ≤ 1536 }
-        requires small { length map ≤ 1536 }
-        requires few_rows { rows_taken self.old ≤ 64 }
-        ensures { self.new ≡ record self.old { maps = slice_set self.old.maps group map; rows = slice_set self.old.rows group rows } }
+    /// Makes a change in its key's bucket, where the key was found before, and writes how many rows the bucket's group
+    /// takes then. There is room for one more flow.
+    pub(crate) fn change(&mut self, bucket: u8, found: Option<Found>, change: &Change, rows: u8)
+        requires bucket { bucket_for change.now.key ≡ bucket }
+        requires flow { option_map (λ found. found.flow) found ≡ flow_at change.now.key (bucket_of self.old.arena bucket) }
+        requires place { IfSome found (λ found. slice_get (bucket_of self.old.arena bucket) found.place ≡ Some found.flow) }
+        requires distinct { AreDistinct (map_in (part_in self.old) (group_of self.old.choices bucket)) }
+        requires few { keys_in (map_in (part_in self.old)) ≤ 1536 }
+        requires few_rows { rows_taken (part_in self.old) ≤ 64 }
+        requires spare { 0 < self.old.arena.spare }
+        ensures choices { self.new.choices ≡ self.old.choices }
+        ensures rows { self.new.rows ≡ slice_set self.old.rows (group_of self.old.choices bucket) rows }
+        ensures maps { ChangesGroup (part_in self.old) (part_in self.new) (group_of self.old.choices bucket) }
+        ensures map { let group = group_of self.old.choices bucket in
+            IsPermutation (step (map_in (part_in self.old) group) change.now) (map_in (part_in self.new) group) }
     {
-        let at = group as usize;
-        self.keys = self.keys - self.maps[at].len() + map.len();
+        let _ = &self.choices;
+        self.set_rows(bucket, rows);
+        self.remove(bucket, found, change.key);
+        if let Some((node, info)) = change.to {
+            self.put(
+                bucket,
+                Flow {
+                    key: change.key,
+                    node,
+                    info,
+                },
+            );
+        }
+    }
+
+    /// Takes the flow of a key out of its bucket, if it was found there.
+    fn remove(&mut self, bucket: u8, found: Option<Found>, key: FlowKey)
+        requires flow { option_map (λ found. found.flow) found ≡ flow_at key (bucket_of self.old.arena bucket) }
+        requires place { IfSome found (λ found. slice_get (bucket_of self.old.arena bucket) found.place ≡ Some found.flow) }
+        requires distinct { AreDistinct (bucket_of self.old.arena bucket) }
+        ensures choices { self.new.choices ≡ self.old.choices }
+        ensures rows { self.new.rows ≡ self.old.rows }
+        ensures buckets { self.new.arena.buckets ≡ slice_set self.old.arena.buckets bucket (without key (bucket_of self.old.arena bucket)) }
+        ensures spare { self.old.arena.spare ≤ self.new.arena.spare }
+        ensures count { item_count self.new.arena ≤ item_count self.old.arena }
+    {
+        let _ = key;
+        if let Some(found) = found {
+            self.arena.take(bucket, found.place);
+            self.keys -= 1;
+        }
+    }
+
+    /// Writes how many rows the bucket's group takes.
+    fn set_rows(&mut self, bucket: u8, rows: u8)
+        requires { rows_taken (part_in self.old) ≤ 64 }
+        ensures { self.new ≡ record self.old { rows = slice_set self.old.rows (group_of self.old.choices bucket) rows } }
+    {
+        let at = self.choices.group(bucket) as usize;
         self.used = self.used - self.rows[at] as usize + rows as usize;
         self.rows[at] = rows;
-        self.maps[at] = map;
     }
 }

@@ -1,6 +1,7 @@
 //! The flows that one owner keeps, and the updates that it accepts.
 //!
-//! A contract sees an `Owner` as a `Rib`: its blocks with the map of each of their groups, and its journal.
+//! A contract sees an `Owner` as a `Rib`: its blocks with the map of each of their groups, and its journal. The flows of
+//! a block stand by their buckets in one arena (`specs/Stock.antt`), and a group's map has those of its buckets.
 //! `specs/Rib.antt` says what these maps are after the journal's changes, `specs/Acceptance.antt` which updates are
 //! accepted and for what the others are refused, and `specs/Turn.antt` what an accepted one gives. `Owner::open` and
 //! `Owner::accept` take memory.
@@ -9,9 +10,10 @@
 #![tactic(auto)]
 
 mod block;
+mod gathering;
+mod item;
 mod judging;
 pub mod laws;
-mod map;
 mod opening;
 mod owner;
 mod refused;

@@ -1,10 +1,11 @@
 //! How an owner is opened: its blocks without flows first, and then each flow at its place.
 
-ghost use Rattle.std.specs.Prelude.{◌≡◌, ◌<◌, [], List, IfOk, OnOk, drop, length, take};
+ghost use Rattle.std.specs.Prelude.{◌≡◌, ◌<◌, [], List, IfOk, OnOk, drop, length, map, take};
 ghost use Rattle.flow_types.specs.Map.{AreDistinct};
 ghost use Rattle.group_search.specs.Build.{IsBuild};
 ghost use Rattle.rib_owner.specs.Opening.{AreFilled};
 ghost use Rattle.rib_owner.specs.Rib.{IsRibOf};
+ghost use Rattle.rib_owner.specs.Stock.{part_in};
 
 use crate::block::OwnedBlock;
 use crate::owner::Owner;
@@ -38,7 +39,6 @@ impl Owner {
         let blocks = filled_blocks(alloc, shape, number, flows, images)?;
         let room = Vec::with_capacity(alloc, MOST_ENTRIES)?;
         Ok(Owner {
-            alloc,
             shape,
             number,
             blocks,
@@ -58,14 +58,14 @@ fn empty_blocks(
 ) -> Result<Vec<OwnedBlock>, AllocError>
     requires node { number < shape.nodes }
     requires built { IsBuild shape flows.now images.now }
-    ensures { IfOk result (λ blocks. AreFilled shape number flows.now [] blocks.items) }
+    ensures { IfOk result (λ blocks. AreFilled shape number flows.now [] (map part_in blocks.items)) }
 {
     let _ = flows;
     let (nodes, count) = (shape.nodes(), shape.blocks());
     let mut blocks = Vec::new(alloc);
     let mut block = u16::from(number);
     'dealt: while block < count {
-        blocks.push(OwnedBlock::open(alloc, &images[usize::from(block)])?)?;
+        blocks.push(OwnedBlock::open(alloc, &images[usize::from(block)]))?;
         block += nodes;
     }
     Ok(blocks)
@@ -78,10 +78,10 @@ fn filled_blocks(
     number: u8,
     flows: &[Flow],
     images: &[BlockImage],
-) -> Result<Vec<OwnedBlock>, AllocError>
+) -> Result<Vec<OwnedBlock>, OutOfMemory>
     requires node { number < shape.nodes }
     requires built { IsBuild shape flows.now images.now }
-    ensures { IfOk result (λ blocks. AreFilled shape number flows.now flows.now blocks.items) }
+    ensures { IfOk result (λ blocks. AreFilled shape number flows.now flows.now (map part_in blocks.items)) }
 {
     let mut blocks = empty_blocks(alloc, shape, number, flows, images)?;
     'flows: for flow in flows {

@@ -11,7 +11,7 @@ ghost use Rattle.rib_owner.specs.Acceptance.{updated_key};
 ghost use Rattle.rib_owner.specs.Rib.{IsRibOf, found_in, group_in, is_owned, map_now, node_and_record, part_of};
 ghost use Rattle.rib_owner.specs.Turn.{AnswersUpdate};
 
-use crate::block::OwnedBlock;
+use crate::block::{OwnedBlock, flow_of};
 use crate::judging::{check_place, fitting_record};
 use crate::refused::UpdateRefused;
 use crate::turn::{FibPlan, Turn};
@@ -20,7 +20,6 @@ use flow_types::{FlowKey, Record, Shape};
 use group_history::{Change, Journal};
 use group_search::Entry;
 use hash_family::place;
-use std::alloc::Global;
 use std::marker::Model;
 
 /// The greatest number of turns of an owner.
@@ -29,7 +28,6 @@ pub const MOST_TURNS: u32 = 65_535;
 /// One node's part of the flow table: the flows of the blocks that it owns, and the changes that it accepted.
 #[derive(Drop)]
 pub struct Owner {
-    pub(crate) alloc: Global,
     pub(crate) shape: Shape,
     pub(crate) number: u8,
     pub(crate) blocks: Vec<OwnedBlock>,
@@ -38,14 +36,16 @@ pub struct Owner {
 }
 
 impl Model for Owner {
+    ghost use Rattle.std.specs.Prelude.{map};
     ghost use Rattle.rib_owner.specs.Part.{IsSoundRib};
     ghost use Rattle.rib_owner.specs.Rib.{Rib};
+    ghost use Rattle.rib_owner.specs.Stock.{part_in};
 
     ghost Value = { Rib };
 
-    ghost view = { λ o. record { size = o.shape; number = o.number; parts = o.blocks.items; journal = o.journal } };
+    ghost view = { λ o. record { size = o.shape; number = o.number; parts = map part_in o.blocks.items; journal = o.journal } };
 
-    ghost invariant = { λ o. IsSoundRib o.shape o.number o.blocks.items o.journal.changes };
+    ghost invariant = { λ o. IsSoundRib o.shape o.number (map part_in o.blocks.items) o.journal.changes };
 }
 
 /// Where an owner keeps a key: the place of its block among the owner's, and its home.
@@ -53,6 +53,7 @@ impl Model for Owner {
 struct Spot {
     index: usize,
     block: u16,
+    bucket: u8,
     group: u8,
 }
 
@@ -74,8 +75,8 @@ impl Owner {
             return None;
         }
         let spot = self.spot(key);
-        match self.blocks[spot.index].find(spot.group, key) {
-            Some(flow) => Some((flow.node, flow.info)),
+        match self.blocks[spot.index].find(spot.bucket, key) {
+            Some(found) => Some((found.flow.node, found.flow.info)),
             None => None,
         }
     }
@@ -93,6 +94,7 @@ impl Owner {
         ensures block { result.block ≡ (hash.place self.now.size.blocks key).block }
         ensures index { result.index ≡ result.block / self.now.size.nodes }
         ensures inside { result.index < length self.now.parts }
+        ensures bucket { result.bucket ≡ (hash.place self.now.size.blocks key).bucket }
         ensures group { result.group ≡ group_in (part_of self.now result.block) self.now.size.blocks key }
         ensures in_range { result.group < 64 }
         ensures below { result.block < self.now.size.blocks }
@@ -103,6 +105,7 @@ impl Owner {
         Spot {
             index,
             block: place.block,
+            bucket: place.bucket,
             group: self.blocks[index].group(place.bucket),
         }
     }
@@ -132,13 +135,16 @@ impl Owner {
             to: update.wanted(),
         };
         let block = &self.blocks[spot.index];
-        check_place(block, spot.block, spot.group, &update)?;
+        let found = block.find(spot.bucket, key);
+        let before = flow_of(found);
+        check_place(block, spot.block, spot.group, &update, before)?;
         let bits = self.shape.value_bits();
         let content = fitting_record(block, bits, &change, &mut self.room)?;
-        let fib = FibPlan::of(&update, block.find(spot.group, key));
-        let map = block.changed(self.alloc, spot.group, &change)?;
+        let fib = FibPlan::of(&update, before);
+        let block = &mut self.blocks[spot.index];
+        block.reserve()?;
         self.journal.reserve()?;
-        self.blocks[spot.index].replace(spot.group, map, content.rows());
+        block.change(spot.bucket, found, &change, content.rows());
         self.journal.push(change);
         Ok(Turn {
             number: turns + 1,

@@ -1,17 +1,18 @@
-use Rattle.std.proofs.Common.{ℕ, ◌≡◌, ◌≢◌, ◌∙◌, ◌++◌, ◌∷◌, [], List, Some, length, get_or, set, replicate, ap, sym, arith, ⊎_elim}
+use Rattle.std.proofs.Common.{ℕ, ◌≡◌, ◌≢◌, ◌∙◌, [], List, Some, length, get_or, set, ap, sym, arith, ⊎_elim}
 use Rattle.std.specs.List.{slice_get}
 use Rattle.std.proofs.lemmas.Bool.{cases_eq}
-use Rattle.std.proofs.lemmas.List.{get_or-set_other, get_or-set_same, length-replicate, length-set, replicate_more}
+use Rattle.std.proofs.lemmas.List.Elements.{All-nil}
+use Rattle.std.proofs.lemmas.List.{get_or-set_other, get_or-set_same, length-replicate, length-set}
 use Rattle.flow_types.specs.declared.record.Flow.{Flow}
 use Rattle.group_search.specs.Canon.{rows_in}
-use Rattle.rib_owner.proofs.Counted.{no_flows, no_keys, no_map, rows_are, used_more}
+use Rattle.rib_owner.proofs.Counted.{no_flows, none_at_all, rows_are, used_more}
+use Rattle.rib_owner.specs.Stock.{bucket_for}
+use Rattle.rib_owner.proofs.Stocked.{in_bucket}
 use Rattle.rib_owner.proofs.Sums.{sum_from}
 use Rattle.rib_owner.proofs.block.OwnedBlock.open.Goals as goal
 
 pub groups-preserved : goal.groups-preserved
 groups-preserved c = record {
-  maps = c.in_ok-push.ensures.items ∙ ap (λ (ms : List (List Flow)). ms ++ c.new.result ∷ []) c.groups.invariant.maps
-      ∙ ap (λ (m : List Flow). replicate c.groups.group no_flows ++ m ∷ []) c.new.ensures ∙ replicate_more c.groups.group no_flows;
   numbers = length-set c.groups.rows c.groups.group c.rows.result ∙ c.groups.invariant.numbers;
   rows = λ group content low is. ⊎_elim
       (λ (same : group ≡ c.groups.group).
@@ -31,11 +32,13 @@ groups-preserved c = record {
 pub invariant_of-result : goal.invariant_of-result
 invariant_of-result c =
     let last : c.groups.group ≡ 64 = omega arith in
-    let none : c.groups.maps.items ≡ replicate 64 [] = c.groups.invariant.maps ∙ ap (λ (n : ℕ). replicate n []) last in
+    let none : (x : ℕ) → in_bucket c.new.result.buckets x ≡ [] =
+    λ x. ap (λ (ls : List (List Flow)). in_bucket ls x) c.new.ensures.buckets ∙ none_at_all 256 x in
     record {
-      one_map_each = ap length none ∙ length-replicate 64 no_flows;
+      one_list_each = ap length c.new.ensures.buckets ∙ length-replicate 256 no_flows;
       one_number_each = c.groups.invariant.numbers;
-      keys = sym (no_keys _ (no_map c.groups.maps.items none));
+      placed = λ x. rw (none x) (All-nil (λ (flow : Flow). bucket_for flow.key ≡ x));
+      keys = sym c.new.ensures.count;
       used = rows_are _ c.groups.used (c.groups.invariant.used ∙ ap (λ (n : ℕ). sum_from (λ (x : ℕ). get_or c.groups.rows x 0) 0 n) last);
     }
 

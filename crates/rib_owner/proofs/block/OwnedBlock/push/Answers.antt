@@ -1,24 +1,35 @@
-use Rattle.std.proofs.Common.{◌≡◌, ◌∙◌, ◌+◌, ◌++◌, ◌∷◌, [], ℕ, List, length, ap, sym, refl, arith}
-use Rattle.std.proofs.lemmas.List.{get_or_default, length-set}
+use Rattle.std.proofs.Common.{◌≡◌, ◌∙◌, ◌++◌, ◌∷◌, [], List, length, set, ap, subst, arith}
+use Rattle.std.specs.List.{sum_by}
+use Rattle.bucket_arena.specs.Arena.{item_count}
 use Rattle.flow_types.specs.declared.record.Flow.{Flow}
-use Rattle.rib_owner.specs.Rib.{Part, map_in}
-use Rattle.rib_owner.proofs.Counted.{keys_pushed, rows_same}
+use Rattle.rib_owner.specs.Acceptance.{keys_in}
+use Rattle.rib_owner.specs.Rib.{map_in}
+use Rattle.rib_owner.specs.Stock.{Stock, part_in}
+use Rattle.rib_owner.proofs.Stocked.{all_flows, in_bucket, map_put, maps_changed}
 use Rattle.rib_owner.proofs.block.OwnedBlock.push.Goals as goal
+use Rattle.rib_owner.proofs.block.OwnedBlock.push.Goals.{After-put}
 
-pub invariant_of-self-2 : goal.invariant_of-self-2
-invariant_of-self-2 c =
-    let part : Part = record { choices = c.self.inside.choices; maps = c.self.inside.maps.items; rows = c.self.inside.rows } in
-    let group : ℕ = c.group-group.result in
-    let maps_there : length part.maps ≡ 64 = c.self.invariant.one_map_each in
-    let low = c.group-group.ensures.below in
-    let read : c.index_mut.result.now ≡ map_in part group =
-    c.index_mut.ensures.value ∙ get_or_default c.self.inside.maps.items group _ [] (omega (arith, maps_there, low)) in
-    let whole : c.push.new.self ≡ map_in part group ++ c.args.flow ∷ [] =
-    c.in_ok-push.ensures.ok ∙ ap (λ (flows : List Flow). flows ++ c.args.flow ∷ []) read in
-    rw whole
-    (record {
-      one_map_each = length-set c.self.inside.maps.items group (map_in part group ++ c.args.flow ∷ []) ∙ maps_there;
-      one_number_each = c.self.invariant.one_number_each;
-      keys = ap (λ (n : ℕ). n + 1) c.self.invariant.keys ∙ sym (keys_pushed part group c.args.flow low maps_there);
-      used = c.self.invariant.used ∙ rows_same part _ refl;
-    })
+pub put-requires-clause-few : goal.put-requires-clause-few
+put-requires-clause-few c =
+    let whole : keys_in (map_in (part_in c.args.self.now)) ≡ item_count c.args.self.now.arena =
+    subst (λ (s : Stock). keys_in (map_in (part_in s)) ≡ item_count s.arena) c.self.view_is
+    (all_flows c.self.inside.choices c.self.inside.arena.buckets c.self.invariant.one_list_each) in
+    let same : item_count c.reserve.new.self.arena ≡ item_count c.args.self.now.arena = ap (λ (ls : List (List Flow)). sum_by length ls) c.reserve.ensures.buckets in
+    omega (arith, whole, same, c.requires.few)
+
+entered : (c : After-put) → c.put.new.self.arena.buckets
+    ≡ set c.args.self.now.arena.buckets c.args.bucket (in_bucket c.args.self.now.arena.buckets c.args.bucket ++ c.args.flow ∷ [])
+entered c =
+    c.put.ensures.buckets
+    ∙ ap (λ (ls : List (List Flow)). set ls c.args.bucket (in_bucket ls c.args.bucket ++ c.args.flow ∷ [])) c.reserve.ensures.buckets
+
+pub returns-clause-maps : goal.returns-clause-maps
+returns-clause-maps c =
+    maps_changed c.args.self.now.choices c.put.new.self.choices c.args.self.now.arena.buckets c.put.new.self.arena.buckets c.args.bucket _
+    (c.put.ensures.choices ∙ c.reserve.ensures.choices) (entered c)
+
+pub returns-clause-map : goal.returns-clause-map
+returns-clause-map c =
+    let each : length c.args.self.now.arena.buckets ≡ 256 = subst (λ (s : Stock). length s.arena.buckets ≡ 256) c.self.view_is c.self.invariant.one_list_each in
+    map_put c.args.self.now.choices c.put.new.self.choices c.args.self.now.arena.buckets c.put.new.self.arena.buckets c.args.bucket c.args.flow (omega arith) each
+    (c.put.ensures.choices ∙ c.reserve.ensures.choices) (entered c)

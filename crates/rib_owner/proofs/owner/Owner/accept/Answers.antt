@@ -1,5 +1,7 @@
-use Rattle.std.proofs.Common.{ℕ, ◌≡◌, ◌≢◌, ◌∙◌, ◌+◌, ◌<◌, ◌++◌, ◌∷◌, [], List, Some, None, length, set, refl, sym, ap, subst, arith, length-append}
-use Rattle.std.proofs.lemmas.List.{get_or_default}
+use Rattle.std.proofs.Common.{ℕ, ◌≡◌, ◌≢◌, ◌∙◌, ◌+◌, ◌<◌, ◌++◌, ◌∷◌, [], List, Some, None, length, map, set, refl, sym, ap, subst, arith, length-append}
+use Rattle.std.proofs.lemmas.List.{get_or_default, length-map, map-set}
+use Rattle.std.proofs.Math.ListN.{get_or-map}
+use Rattle.flow_types.specs.declared.key.FlowKey.{FlowKey}
 use Rattle.flow_types.specs.Map.{flow_at}
 use Rattle.flow_types.specs.Size.{Size, value_bits}
 use Rattle.hash_family.specs.Hash.{place}
@@ -11,12 +13,15 @@ use Rattle.rib_owner.specs.declared.refused.UpdateRefused.{UpdateRefused}
 use Rattle.rib_owner.specs.declared.refused.UpdateRefused.TheVariants.{RowsFull}
 use Rattle.rib_owner.specs.Acceptance.{grounds_in, refusal_of_place, updated_key, wanted}
 use Rattle.rib_owner.specs.Judging.{IsFor, refusal_in_rows}
+use Rattle.group_history.specs.Journal.{Log}
+use Rattle.group_search.specs.Home.{group_of}
 use Rattle.rib_owner.specs.Part.{IsOwner}
-use Rattle.rib_owner.specs.Rib.{Part, Rib, map_in, no_part}
+use Rattle.rib_owner.specs.Rib.{IsRibOf, Part, Rib, map_in}
+use Rattle.rib_owner.specs.Stock.{part_in}
 use Rattle.rib_owner.specs.Turn.{plan_of}
-use Rattle.rib_owner.proofs.Accepting.{IsSeen, err_is, found_kept, same_err, seen, seen_accepted, seen_owner, seen_place, seen_rows, seen_small, seen_stands, seen_turn}
+use Rattle.rib_owner.proofs.Accepting.{IsChanged, IsSeen, changed, err_is, found_kept, on_err, parts_same, same_err, seen, seen_accepted, seen_owner, seen_place, seen_rows, seen_small, seen_stands, seen_turn}
 use Rattle.rib_owner.proofs.Answering.{answer_spent}
-use Rattle.rib_owner.proofs.Counted.{with_map}
+use Rattle.rib_owner.proofs.Stocked.{bucket_of_place}
 use Rattle.rib_owner.proofs.Removed.{place_not_rows, removed_fits}
 use Rattle.rib_owner.proofs.owner.Owner.accept.Goals as goal
 
@@ -26,46 +31,78 @@ returns-then-turns-eq-MOST_TURNS-clause-answer c flows is =
     sym (ap (λ (r : Rib). length r.journal.changes) c.self.view_is) ∙ sym c.len-turns.ensures ∙ c.if-turns-eq-MOST_TURNS.true in
     answer_spent c.args.self.now.size flows c.args.self.now.journal.changes c.args.update last
 
+pub find-found-requires : goal.find-found-requires
+find-found-requires c =
+    sym (c.spot-spot.ensures.bucket ∙ bucket_of_place c.args.self.now.size.blocks c.key-key.result)
+
+pub check_place-requires : goal.check_place-requires
+check_place-requires c =
+    let is_seen : IsSeen c.args.self.now c.args.update c.spot-spot.result.block c.spot-spot.result.group c.spot-spot.result.index (part_in c.index-block.result.now)
+    (record { block = c.spot-spot.result.block; group = c.spot-spot.result.group; key = c.key-key.result; to = c.wanted.result }) =
+    seen c.args.self.now (record { size = c.self.inside.shape; number = c.self.inside.number; parts = map part_in c.self.inside.blocks.items; journal = c.self.inside.journal }) c.self.view_is
+    c.args.update c.key-key.result c.key-key.ensures c.spot-spot.result.block c.spot-spot.result.group c.spot-spot.result.index
+    c.spot-spot.ensures.block c.spot-spot.ensures.index c.spot-spot.ensures.inside c.spot-spot.ensures.group c.spot-spot.ensures.in_range
+    (part_in c.index-block.result.now) (ap part_in c.index-block.ensures ∙ sym (get_or-map part_in c.self.inside.blocks.items c.spot-spot.result.index c.index-block.result.now)) c.wanted.result c.wanted.ensures in
+    c.flow_of-before.ensures ∙ c.find-found.ensures.flow ∙ c.find-found.ensures.in_group
+    ∙ ap (λ (k : FlowKey). flow_at k (map_in (part_in c.index-block.result.now) (group_of c.index-block.result.now.choices c.spot-spot.result.bucket))) c.key-key.ensures
+    ∙ ap (λ (g : ℕ). flow_at (updated_key c.args.update) (map_in (part_in c.index-block.result.now) g)) (sym (is_seen.group_is ∙ ap (λ (p : Part). group_of p.choices (place c.args.self.now.size.blocks (updated_key c.args.update)).bucket) (sym is_seen.found_is)
+    ∙ ap (group_of (part_in c.index-block.result.now).choices) (ap (λ (k : FlowKey). (place c.args.self.now.size.blocks k).bucket) (sym c.key-key.ensures) ∙ sym c.spot-spot.ensures.bucket)))
+
 pub returns-in_err-check_place-clause-answer : goal.returns-in_err-check_place-clause-answer
 returns-in_err-check_place-clause-answer c flows is =
-    let held : Rib = record { size = c.self.inside.shape; number = c.self.inside.number; parts = c.self.inside.blocks.items; journal = c.self.inside.journal } in
-    let is_seen : IsSeen c.args.self.now c.args.update c.spot-spot.result.block c.spot-spot.result.group c.spot-spot.result.index c.index-block.result.now
+    let is_seen : IsSeen c.args.self.now c.args.update c.spot-spot.result.block c.spot-spot.result.group c.spot-spot.result.index (part_in c.index-block.result.now)
     (record { block = c.spot-spot.result.block; group = c.spot-spot.result.group; key = c.key-key.result; to = c.wanted.result }) =
-    seen c.args.self.now held c.self.view_is c.args.update c.key-key.result c.key-key.ensures c.spot-spot.result.block c.spot-spot.result.group c.spot-spot.result.index
+    seen c.args.self.now (record { size = c.self.inside.shape; number = c.self.inside.number; parts = map part_in c.self.inside.blocks.items; journal = c.self.inside.journal }) c.self.view_is
+    c.args.update c.key-key.result c.key-key.ensures c.spot-spot.result.block c.spot-spot.result.group c.spot-spot.result.index
     c.spot-spot.ensures.block c.spot-spot.ensures.index c.spot-spot.ensures.inside c.spot-spot.ensures.group c.spot-spot.ensures.in_range
-    c.index-block.result.now c.index-block.ensures c.wanted.result c.wanted.ensures in
+    (part_in c.index-block.result.now) (ap part_in c.index-block.ensures ∙ sym (get_or-map part_in c.self.inside.blocks.items c.spot-spot.result.index c.index-block.result.now)) c.wanted.result c.wanted.ensures in
     let sound : IsOwner c.args.self.now.size c.args.self.now.number c.args.self.now.parts =
     subst (λ (r : Rib). IsOwner r.size r.number r.parts) c.self.view_is c.self.invariant.owner in
     let left : length c.args.self.now.journal.changes ≢ 65535 =
     λ last. c.if-turns-eq-MOST_TURNS.false (c.len-turns.ensures ∙ ap (λ (r : Rib). length r.journal.changes) c.self.view_is ∙ last) in
     let low : (place c.args.self.now.size.blocks (updated_key c.args.update)).block < c.args.self.now.size.blocks = omega (arith, is_seen.block_is, c.spot-spot.ensures.below) in
     rw (err_is c.from_residual.result c.in_err-check_place.field-0.0 c.from_residual.ensures.1)
-    (seen_place c.args.self.now c.args.update c.spot-spot.result.block c.spot-spot.result.group c.spot-spot.result.index c.index-block.result.now
+    (seen_place c.args.self.now c.args.update c.spot-spot.result.block c.spot-spot.result.group c.spot-spot.result.index (part_in c.index-block.result.now)
     (record { block = c.spot-spot.result.block; group = c.spot-spot.result.group; key = c.key-key.result; to = c.wanted.result }) is_seen c.requires.owns c.spot-spot.ensures.some_node sound
     low flows is left c.in_err-check_place.field-0.0 c.in_err-check_place.ensures)
 
-pub fitting_record-requires-clause-few : goal.fitting_record-requires-clause-few
-fitting_record-requires-clause-few c =
-    let held : Rib = record { size = c.self.inside.shape; number = c.self.inside.number; parts = c.self.inside.blocks.items; journal = c.self.inside.journal } in
-    let is_seen : IsSeen c.args.self.now c.args.update c.spot-spot.result.block c.spot-spot.result.group c.spot-spot.result.index c.index-block.result.now
+pub fitting_record-requires-clause-kept : goal.fitting_record-requires-clause-kept
+fitting_record-requires-clause-kept c =
+    let is_seen : IsSeen c.args.self.now c.args.update c.spot-spot.result.block c.spot-spot.result.group c.spot-spot.result.index (part_in c.index-block.result.now)
     (record { block = c.spot-spot.result.block; group = c.spot-spot.result.group; key = c.key-key.result; to = c.wanted.result }) =
-    seen c.args.self.now held c.self.view_is c.args.update c.key-key.result c.key-key.ensures c.spot-spot.result.block c.spot-spot.result.group c.spot-spot.result.index
+    seen c.args.self.now (record { size = c.self.inside.shape; number = c.self.inside.number; parts = map part_in c.self.inside.blocks.items; journal = c.self.inside.journal }) c.self.view_is
+    c.args.update c.key-key.result c.key-key.ensures c.spot-spot.result.block c.spot-spot.result.group c.spot-spot.result.index
     c.spot-spot.ensures.block c.spot-spot.ensures.index c.spot-spot.ensures.inside c.spot-spot.ensures.group c.spot-spot.ensures.in_range
-    c.index-block.result.now c.index-block.ensures c.wanted.result c.wanted.ensures in
+    (part_in c.index-block.result.now) (ap part_in c.index-block.ensures ∙ sym (get_or-map part_in c.self.inside.blocks.items c.spot-spot.result.index c.index-block.result.now)) c.wanted.result c.wanted.ensures in
     let sound : IsOwner c.args.self.now.size c.args.self.now.number c.args.self.now.parts =
     subst (λ (r : Rib). IsOwner r.size r.number r.parts) c.self.view_is c.self.invariant.owner in
-    seen_small c.args.self.now c.args.update c.spot-spot.result.block c.spot-spot.result.group c.spot-spot.result.index c.index-block.result.now
+    let size_is : c.self.inside.shape ≡ c.args.self.now.size = ap (λ (r : Rib). r.size) c.self.view_is in
+    let bits : c.value_bits-bits.result ≡ value_bits c.args.self.now.size.nodes = c.value_bits-bits.ensures.value ∙ ap (λ (s : Size). value_bits s.nodes) size_is in
+    rw bits (found_kept c.args.self.now c.args.update c.spot-spot.result.block c.spot-spot.result.group c.spot-spot.result.index (part_in c.index-block.result.now)
+    (record { block = c.spot-spot.result.block; group = c.spot-spot.result.group; key = c.key-key.result; to = c.wanted.result }) is_seen c.requires.owns c.spot-spot.ensures.some_node sound)
+
+pub fitting_record-requires-clause-few : goal.fitting_record-requires-clause-few
+fitting_record-requires-clause-few c =
+    let is_seen : IsSeen c.args.self.now c.args.update c.spot-spot.result.block c.spot-spot.result.group c.spot-spot.result.index (part_in c.index-block.result.now)
+    (record { block = c.spot-spot.result.block; group = c.spot-spot.result.group; key = c.key-key.result; to = c.wanted.result }) =
+    seen c.args.self.now (record { size = c.self.inside.shape; number = c.self.inside.number; parts = map part_in c.self.inside.blocks.items; journal = c.self.inside.journal }) c.self.view_is
+    c.args.update c.key-key.result c.key-key.ensures c.spot-spot.result.block c.spot-spot.result.group c.spot-spot.result.index
+    c.spot-spot.ensures.block c.spot-spot.ensures.index c.spot-spot.ensures.inside c.spot-spot.ensures.group c.spot-spot.ensures.in_range
+    (part_in c.index-block.result.now) (ap part_in c.index-block.ensures ∙ sym (get_or-map part_in c.self.inside.blocks.items c.spot-spot.result.index c.index-block.result.now)) c.wanted.result c.wanted.ensures in
+    let sound : IsOwner c.args.self.now.size c.args.self.now.number c.args.self.now.parts =
+    subst (λ (r : Rib). IsOwner r.size r.number r.parts) c.self.view_is c.self.invariant.owner in
+    seen_small c.args.self.now c.args.update c.spot-spot.result.block c.spot-spot.result.group c.spot-spot.result.index (part_in c.index-block.result.now)
     (record { block = c.spot-spot.result.block; group = c.spot-spot.result.group; key = c.key-key.result; to = c.wanted.result }) is_seen c.requires.owns c.spot-spot.ensures.some_node sound
     c.in_ok-check_place.ensures
 
 pub returns-in_err-content-clause-answer : goal.returns-in_err-content-clause-answer
 returns-in_err-content-clause-answer c flows is =
-    let held : Rib = record { size = c.self.inside.shape; number = c.self.inside.number; parts = c.self.inside.blocks.items; journal = c.self.inside.journal } in
-    let is_seen : IsSeen c.args.self.now c.args.update c.spot-spot.result.block c.spot-spot.result.group c.spot-spot.result.index c.index-block.result.now
+    let is_seen : IsSeen c.args.self.now c.args.update c.spot-spot.result.block c.spot-spot.result.group c.spot-spot.result.index (part_in c.index-block.result.now)
     (record { block = c.spot-spot.result.block; group = c.spot-spot.result.group; key = c.key-key.result; to = c.wanted.result }) =
-    seen c.args.self.now held c.self.view_is c.args.update c.key-key.result c.key-key.ensures c.spot-spot.result.block c.spot-spot.result.group c.spot-spot.result.index
+    seen c.args.self.now (record { size = c.self.inside.shape; number = c.self.inside.number; parts = map part_in c.self.inside.blocks.items; journal = c.self.inside.journal }) c.self.view_is
+    c.args.update c.key-key.result c.key-key.ensures c.spot-spot.result.block c.spot-spot.result.group c.spot-spot.result.index
     c.spot-spot.ensures.block c.spot-spot.ensures.index c.spot-spot.ensures.inside c.spot-spot.ensures.group c.spot-spot.ensures.in_range
-    c.index-block.result.now c.index-block.ensures c.wanted.result c.wanted.ensures in
+    (part_in c.index-block.result.now) (ap part_in c.index-block.ensures ∙ sym (get_or-map part_in c.self.inside.blocks.items c.spot-spot.result.index c.index-block.result.now)) c.wanted.result c.wanted.ensures in
     let sound : IsOwner c.args.self.now.size c.args.self.now.number c.args.self.now.parts =
     subst (λ (r : Rib). IsOwner r.size r.number r.parts) c.self.view_is c.self.invariant.owner in
     let left : length c.args.self.now.journal.changes ≢ 65535 =
@@ -74,66 +111,113 @@ returns-in_err-content-clause-answer c flows is =
     let size_is : c.self.inside.shape ≡ c.args.self.now.size = ap (λ (r : Rib). r.size) c.self.view_is in
     let bits : c.value_bits-bits.result ≡ value_bits c.args.self.now.size.nodes = c.value_bits-bits.ensures.value ∙ ap (λ (s : Size). value_bits s.nodes) size_is in
     rw (err_is c.from_residual-in_err-content.result c.in_err-content.field-0.0 c.from_residual-in_err-content.ensures.1)
-    (seen_rows c.args.self.now c.args.update c.spot-spot.result.block c.spot-spot.result.group c.spot-spot.result.index c.index-block.result.now
+    (seen_rows c.args.self.now c.args.update c.spot-spot.result.block c.spot-spot.result.group c.spot-spot.result.index (part_in c.index-block.result.now)
     (record { block = c.spot-spot.result.block; group = c.spot-spot.result.group; key = c.key-key.result; to = c.wanted.result }) is_seen c.requires.owns c.spot-spot.ensures.some_node sound
     low flows is left c.in_ok-check_place.ensures c.in_err-content.field-0.0 (rw bits at c.in_err-content.ensures.rows))
 
-pub replace-requires-clause-small : goal.replace-requires-clause-small
-replace-requires-clause-small c =
-    let held : Rib = record { size = c.self.inside.shape; number = c.self.inside.number; parts = c.self.inside.blocks.items; journal = c.self.inside.journal } in
-    let is_seen : IsSeen c.args.self.now c.args.update c.spot-spot.result.block c.spot-spot.result.group c.spot-spot.result.index c.index-block.result.now
-    (record { block = c.spot-spot.result.block; group = c.spot-spot.result.group; key = c.key-key.result; to = c.wanted.result }) =
-    seen c.args.self.now held c.self.view_is c.args.update c.key-key.result c.key-key.ensures c.spot-spot.result.block c.spot-spot.result.group c.spot-spot.result.index
-    c.spot-spot.ensures.block c.spot-spot.ensures.index c.spot-spot.ensures.inside c.spot-spot.ensures.group c.spot-spot.ensures.in_range
-    c.index-block.result.now c.index-block.ensures c.wanted.result c.wanted.ensures in
-    let sound : IsOwner c.args.self.now.size c.args.self.now.number c.args.self.now.parts =
-    subst (λ (r : Rib). IsOwner r.size r.number r.parts) c.self.view_is c.self.invariant.owner in
-    let map_is : c.in_ok-map.map ≡ step (map_in c.index-block.result.now c.spot-spot.result.group) (record { block = c.spot-spot.result.block; group = c.spot-spot.result.group; key = c.key-key.result; to = c.wanted.result }) =
-    c.in_ok-map.ensures in
-    rw map_is
-    (seen_small c.args.self.now c.args.update c.spot-spot.result.block c.spot-spot.result.group c.spot-spot.result.index c.index-block.result.now
-    (record { block = c.spot-spot.result.block; group = c.spot-spot.result.group; key = c.key-key.result; to = c.wanted.result }) is_seen c.requires.owns c.spot-spot.ensures.some_node sound
-    c.in_ok-check_place.ensures)
+pub invariant_of-self-in_err-reserve : goal.invariant_of-self-in_err-reserve
+invariant_of-self-in_err-reserve c =
+    let same : map part_in (set c.self.inside.blocks.items c.spot-spot.result.index c.reserve.new.self) ≡ map part_in c.self.inside.blocks.items =
+    parts_same c.self.inside.blocks.items c.spot-spot.result.index c.index_mut-block.result.now c.reserve.new.self c.index_mut-block.ensures.value
+    c.reserve.ensures.choices c.reserve.ensures.rows c.reserve.ensures.buckets in
+    record {
+      owner = rw same c.self.invariant.owner;
+      turns = c.self.invariant.turns;
+    }
 
-pub push-requires-clause-few : goal.push-requires-clause-few
-push-requires-clause-few c = omega (arith, ap length c.in_ok-reserve.ensures.changes, c.self.invariant.turns)
+pub returns-in_err-reserve-clause-refused : goal.returns-in_err-reserve-clause-refused
+returns-in_err-reserve-clause-refused c =
+    let same : map part_in (set c.self.inside.blocks.items c.spot-spot.result.index c.reserve.new.self) ≡ map part_in c.self.inside.blocks.items =
+    parts_same c.self.inside.blocks.items c.spot-spot.result.index c.index_mut-block.result.now c.reserve.new.self c.index_mut-block.ensures.value
+    c.reserve.ensures.choices c.reserve.ensures.rows c.reserve.ensures.buckets in
+    let with : List Part → Rib = λ (ps : List Part). record { size = c.self.inside.shape; number = c.self.inside.number; parts = ps; journal = c.self.inside.journal } in
+    let stays = ap with same ∙ c.self.view_is in
+    on_err c.from_residual-in_err-reserve.result stays
+
+pub returns-in_err-reserve-clause-stands : goal.returns-in_err-reserve-clause-stands
+returns-in_err-reserve-clause-stands c flows is =
+    let same : map part_in (set c.self.inside.blocks.items c.spot-spot.result.index c.reserve.new.self) ≡ map part_in c.self.inside.blocks.items =
+    parts_same c.self.inside.blocks.items c.spot-spot.result.index c.index_mut-block.result.now c.reserve.new.self c.index_mut-block.ensures.value
+    c.reserve.ensures.choices c.reserve.ensures.rows c.reserve.ensures.buckets in
+    let with : List Part → Rib = λ (ps : List Part). record { size = c.self.inside.shape; number = c.self.inside.number; parts = ps; journal = c.self.inside.journal } in
+    let stays = ap with same ∙ c.self.view_is in
+    subst (IsRibOf c.args.self.now.size flows) (sym stays) is
+
+pub invariant_of-self-in_err-reserve-2 : goal.invariant_of-self-in_err-reserve-2
+invariant_of-self-in_err-reserve-2 c =
+    let same : map part_in (set c.self.inside.blocks.items c.spot-spot.result.index c.reserve.new.self) ≡ map part_in c.self.inside.blocks.items =
+    parts_same c.self.inside.blocks.items c.spot-spot.result.index c.index_mut-block.result.now c.reserve.new.self c.index_mut-block.ensures.value
+    c.reserve.ensures.choices c.reserve.ensures.rows c.reserve.ensures.buckets in
+    record {
+      owner = rw same c.self.invariant.owner;
+      turns = omega (arith, ap length c.in_err-reserve-2.ensures.changes, c.self.invariant.turns);
+    }
+
+pub returns-in_err-reserve-2-clause-refused : goal.returns-in_err-reserve-2-clause-refused
+returns-in_err-reserve-2-clause-refused c =
+    let same : map part_in (set c.self.inside.blocks.items c.spot-spot.result.index c.reserve.new.self) ≡ map part_in c.self.inside.blocks.items =
+    parts_same c.self.inside.blocks.items c.spot-spot.result.index c.index_mut-block.result.now c.reserve.new.self c.index_mut-block.ensures.value
+    c.reserve.ensures.choices c.reserve.ensures.rows c.reserve.ensures.buckets in
+    let with : List Part → Rib = λ (ps : List Part). record { size = c.self.inside.shape; number = c.self.inside.number; parts = ps; journal = c.self.inside.journal } in
+    let logged : Log → Rib = λ (log : Log).
+    record { size = c.self.inside.shape; number = c.self.inside.number; parts = map part_in (set c.self.inside.blocks.items c.spot-spot.result.index c.reserve.new.self); journal = log } in
+    let stays = ap logged c.in_err-reserve-2.ensures.refused ∙ ap with same ∙ c.self.view_is in
+    on_err c.from_residual-in_err-reserve-2.result stays
+
+pub returns-in_err-reserve-2-clause-stands : goal.returns-in_err-reserve-2-clause-stands
+returns-in_err-reserve-2-clause-stands c flows is =
+    let same : map part_in (set c.self.inside.blocks.items c.spot-spot.result.index c.reserve.new.self) ≡ map part_in c.self.inside.blocks.items =
+    parts_same c.self.inside.blocks.items c.spot-spot.result.index c.index_mut-block.result.now c.reserve.new.self c.index_mut-block.ensures.value
+    c.reserve.ensures.choices c.reserve.ensures.rows c.reserve.ensures.buckets in
+    let with : List Part → Rib = λ (ps : List Part). record { size = c.self.inside.shape; number = c.self.inside.number; parts = ps; journal = c.self.inside.journal } in
+    let logged : Log → Rib = λ (log : Log).
+    record { size = c.self.inside.shape; number = c.self.inside.number; parts = map part_in (set c.self.inside.blocks.items c.spot-spot.result.index c.reserve.new.self); journal = log } in
+    let stays = ap logged c.in_err-reserve-2.ensures.refused ∙ ap with same ∙ c.self.view_is in
+    subst (IsRibOf c.args.self.now.size flows) (sym stays) is
+
+pub change-requires-clause-bucket : goal.change-requires-clause-bucket
+change-requires-clause-bucket c =
+    sym (c.spot-spot.ensures.bucket ∙ bucket_of_place c.args.self.now.size.blocks c.key-key.result)
 
 pub overflow_add-result : goal.overflow_add-result
 overflow_add-result c = omega (arith, c.self.invariant.turns, c.len-turns.ensures)
 
 pub invariant_of-self-2 : goal.invariant_of-self-2
 invariant_of-self-2 c =
-    let held : Rib = record { size = c.self.inside.shape; number = c.self.inside.number; parts = c.self.inside.blocks.items; journal = c.self.inside.journal } in
-    let is_seen : IsSeen c.args.self.now c.args.update c.spot-spot.result.block c.spot-spot.result.group c.spot-spot.result.index c.index-block.result.now
+    let is_seen : IsSeen c.args.self.now c.args.update c.spot-spot.result.block c.spot-spot.result.group c.spot-spot.result.index (part_in c.index-block.result.now)
     (record { block = c.spot-spot.result.block; group = c.spot-spot.result.group; key = c.key-key.result; to = c.wanted.result }) =
-    seen c.args.self.now held c.self.view_is c.args.update c.key-key.result c.key-key.ensures c.spot-spot.result.block c.spot-spot.result.group c.spot-spot.result.index
+    seen c.args.self.now (record { size = c.self.inside.shape; number = c.self.inside.number; parts = map part_in c.self.inside.blocks.items; journal = c.self.inside.journal }) c.self.view_is
+    c.args.update c.key-key.result c.key-key.ensures c.spot-spot.result.block c.spot-spot.result.group c.spot-spot.result.index
     c.spot-spot.ensures.block c.spot-spot.ensures.index c.spot-spot.ensures.inside c.spot-spot.ensures.group c.spot-spot.ensures.in_range
-    c.index-block.result.now c.index-block.ensures c.wanted.result c.wanted.ensures in
+    (part_in c.index-block.result.now) (ap part_in c.index-block.ensures ∙ sym (get_or-map part_in c.self.inside.blocks.items c.spot-spot.result.index c.index-block.result.now)) c.wanted.result c.wanted.ensures in
     let sound : IsOwner c.args.self.now.size c.args.self.now.number c.args.self.now.parts =
     subst (λ (r : Rib). IsOwner r.size r.number r.parts) c.self.view_is c.self.invariant.owner in
     let size_is : c.self.inside.shape ≡ c.args.self.now.size = ap (λ (r : Rib). r.size) c.self.view_is in
     let bits : c.value_bits-bits.result ≡ value_bits c.args.self.now.size.nodes = c.value_bits-bits.ensures.value ∙ ap (λ (s : Size). value_bits s.nodes) size_is in
-    let map_is : c.in_ok-map.map ≡ step (map_in c.index-block.result.now c.spot-spot.result.group) (record { block = c.spot-spot.result.block; group = c.spot-spot.result.group; key = c.key-key.result; to = c.wanted.result }) =
-    c.in_ok-map.ensures in
-    let there : c.spot-spot.result.index < length c.self.inside.blocks.items = omega (arith, c.spot-spot.ensures.inside, ap (λ (r : Rib). length r.parts) c.self.view_is) in
-    let mut_is : c.index_mut.result.now ≡ c.index-block.result.now =
-    c.index_mut.ensures.value ∙ get_or_default c.self.inside.blocks.items c.spot-spot.result.index _ no_part there
-    ∙ sym (c.index-block.ensures ∙ get_or_default c.self.inside.blocks.items c.spot-spot.result.index _ no_part there) in
-    let new_is : c.replace.new.self ≡ with_map c.index-block.result.now c.spot-spot.result.group c.in_ok-map.map c.rows.result =
-    c.replace.ensures ∙ ap (λ (p : Part). with_map p c.spot-spot.result.group c.in_ok-map.map c.rows.result) mut_is in
-    let content : canonical (value_bits c.args.self.now.size.nodes)
-    (entries (step (map_in c.index-block.result.now c.spot-spot.result.group) (record { block = c.spot-spot.result.block; group = c.spot-spot.result.group; key = c.key-key.result; to = c.wanted.result })))
-    ≡ Some c.in_ok-content.content = rw bits at c.in_ok-content.ensures.record in
+    let content : canonical (value_bits c.args.self.now.size.nodes) (entries (step (map_in (part_in c.index-block.result.now) c.spot-spot.result.group) (record { block = c.spot-spot.result.block; group = c.spot-spot.result.group; key = c.key-key.result; to = c.wanted.result }))) ≡ Some c.in_ok-content.content =
+    rw bits at c.in_ok-content.ensures.record in
+    let there : c.spot-spot.result.index < length c.self.inside.blocks.items =
+    omega (arith, c.spot-spot.ensures.inside, ap (λ (r : Rib). length r.parts) c.self.view_is, length-map c.self.inside.blocks.items part_in) in
+    let mut_is : part_in c.index_mut-block.result.now ≡ (part_in c.index-block.result.now) =
+    ap part_in
+    (c.index_mut-block.ensures.value ∙ get_or_default c.self.inside.blocks.items c.spot-spot.result.index _ c.index-block.result.now there ∙ sym c.index-block.ensures) in
+    let is_changed : IsChanged (part_in c.index-block.result.now) (part_in c.change.new.self) c.spot-spot.result.group c.rows.result (record { block = c.spot-spot.result.block; group = c.spot-spot.result.group; key = c.key-key.result; to = c.wanted.result }) =
+    changed c.index_mut-block.result.now c.reserve.new.self c.change.new.self (part_in c.index-block.result.now) c.spot-spot.result.bucket c.spot-spot.result.group c.rows.result (record { block = c.spot-spot.result.block; group = c.spot-spot.result.group; key = c.key-key.result; to = c.wanted.result })
+    mut_is c.reserve.ensures.choices c.reserve.ensures.rows c.reserve.ensures.buckets c.change.ensures.choices c.change.ensures.rows c.change.ensures.maps c.change.ensures.map
+    (is_seen.group_is ∙ ap (λ (p : Part). group_of p.choices (place c.args.self.now.size.blocks (updated_key c.args.update)).bucket) (sym is_seen.found_is)
+    ∙ ap (group_of (part_in c.index-block.result.now).choices) (ap (λ (k : FlowKey). (place c.args.self.now.size.blocks k).bucket) (sym c.key-key.ensures) ∙ sym c.spot-spot.ensures.bucket)) in
     record {
-      owner = subst (λ (r : Rib). IsOwner r.size r.number (set r.parts c.spot-spot.result.index c.replace.new.self)) (sym c.self.view_is)
-          (seen_owner c.args.self.now c.args.update c.spot-spot.result.block c.spot-spot.result.group c.spot-spot.result.index c.index-block.result.now
+      owner = rw (map-set part_in c.self.inside.blocks.items c.spot-spot.result.index c.change.new.self)
+          (subst (λ (r : Rib). IsOwner r.size r.number (set r.parts c.spot-spot.result.index (part_in c.change.new.self))) (sym c.self.view_is)
+          (seen_owner c.args.self.now c.args.update c.spot-spot.result.block c.spot-spot.result.group c.spot-spot.result.index (part_in c.index-block.result.now)
           (record { block = c.spot-spot.result.block; group = c.spot-spot.result.group; key = c.key-key.result; to = c.wanted.result }) is_seen c.requires.owns c.spot-spot.ensures.some_node sound
-          c.in_ok-check_place.ensures c.in_ok-content.content c.in_ok-map.map c.rows.result c.replace.new.self map_is content c.rows.ensures c.in_ok-content.ensures.free new_is);
+          c.in_ok-check_place.ensures c.in_ok-content.content (map_in (part_in c.change.new.self) c.spot-spot.result.group) c.rows.result (part_in c.change.new.self) is_changed.map_is content c.rows.ensures
+          c.in_ok-content.ensures.free is_changed.part_is));
       turns = omega (
         arith,
         ap length c.push.ensures.changes,
-        ap length c.in_ok-reserve.ensures.changes,
-        length-append c.reserve.new.self.changes ((record { block = c.spot-spot.result.block; group = c.spot-spot.result.group; key = c.key-key.result; to = c.wanted.result }) ∷ []),
+        ap length c.in_ok-reserve-2.ensures.changes,
+        length-append c.reserve-2.new.self.changes ((record { block = c.spot-spot.result.block; group = c.spot-spot.result.group; key = c.key-key.result; to = c.wanted.result }) ∷ []),
         c.self.invariant.turns,
         c.len-turns.ensures,
         c.if-turns-eq-MOST_TURNS.false,
@@ -142,55 +226,62 @@ invariant_of-self-2 c =
 
 pub returns-clause-answer : goal.returns-clause-answer
 returns-clause-answer c flows is =
-    let held : Rib = record { size = c.self.inside.shape; number = c.self.inside.number; parts = c.self.inside.blocks.items; journal = c.self.inside.journal } in
-    let is_seen : IsSeen c.args.self.now c.args.update c.spot-spot.result.block c.spot-spot.result.group c.spot-spot.result.index c.index-block.result.now
+    let is_seen : IsSeen c.args.self.now c.args.update c.spot-spot.result.block c.spot-spot.result.group c.spot-spot.result.index (part_in c.index-block.result.now)
     (record { block = c.spot-spot.result.block; group = c.spot-spot.result.group; key = c.key-key.result; to = c.wanted.result }) =
-    seen c.args.self.now held c.self.view_is c.args.update c.key-key.result c.key-key.ensures c.spot-spot.result.block c.spot-spot.result.group c.spot-spot.result.index
+    seen c.args.self.now (record { size = c.self.inside.shape; number = c.self.inside.number; parts = map part_in c.self.inside.blocks.items; journal = c.self.inside.journal }) c.self.view_is
+    c.args.update c.key-key.result c.key-key.ensures c.spot-spot.result.block c.spot-spot.result.group c.spot-spot.result.index
     c.spot-spot.ensures.block c.spot-spot.ensures.index c.spot-spot.ensures.inside c.spot-spot.ensures.group c.spot-spot.ensures.in_range
-    c.index-block.result.now c.index-block.ensures c.wanted.result c.wanted.ensures in
+    (part_in c.index-block.result.now) (ap part_in c.index-block.ensures ∙ sym (get_or-map part_in c.self.inside.blocks.items c.spot-spot.result.index c.index-block.result.now)) c.wanted.result c.wanted.ensures in
     let sound : IsOwner c.args.self.now.size c.args.self.now.number c.args.self.now.parts =
     subst (λ (r : Rib). IsOwner r.size r.number r.parts) c.self.view_is c.self.invariant.owner in
+    let before : c.flow_of-before.result ≡ flow_at (updated_key c.args.update) (map_in (part_in c.index-block.result.now) c.spot-spot.result.group) =
+    c.flow_of-before.ensures ∙ c.find-found.ensures.flow ∙ c.find-found.ensures.in_group
+    ∙ ap (λ (k : FlowKey). flow_at k (map_in (part_in c.index-block.result.now) (group_of c.index-block.result.now.choices c.spot-spot.result.bucket))) c.key-key.ensures
+    ∙ ap (λ (g : ℕ). flow_at (updated_key c.args.update) (map_in (part_in c.index-block.result.now) g)) (sym (is_seen.group_is ∙ ap (λ (p : Part). group_of p.choices (place c.args.self.now.size.blocks (updated_key c.args.update)).bucket) (sym is_seen.found_is)
+    ∙ ap (group_of (part_in c.index-block.result.now).choices) (ap (λ (k : FlowKey). (place c.args.self.now.size.blocks k).bucket) (sym c.key-key.ensures) ∙ sym c.spot-spot.ensures.bucket))) in
     let left : length c.args.self.now.journal.changes ≢ 65535 =
     λ last. c.if-turns-eq-MOST_TURNS.false (c.len-turns.ensures ∙ ap (λ (r : Rib). length r.journal.changes) c.self.view_is ∙ last) in
     let low : (place c.args.self.now.size.blocks (updated_key c.args.update)).block < c.args.self.now.size.blocks = omega (arith, is_seen.block_is, c.spot-spot.ensures.below) in
     let size_is : c.self.inside.shape ≡ c.args.self.now.size = ap (λ (r : Rib). r.size) c.self.view_is in
     let bits : c.value_bits-bits.result ≡ value_bits c.args.self.now.size.nodes = c.value_bits-bits.ensures.value ∙ ap (λ (s : Size). value_bits s.nodes) size_is in
-    let content : canonical (value_bits c.args.self.now.size.nodes)
-    (entries (step (map_in c.index-block.result.now c.spot-spot.result.group) (record { block = c.spot-spot.result.block; group = c.spot-spot.result.group; key = c.key-key.result; to = c.wanted.result })))
-    ≡ Some c.in_ok-content.content = rw bits at c.in_ok-content.ensures.record in (
-      seen_accepted c.args.self.now c.args.update c.spot-spot.result.block c.spot-spot.result.group c.spot-spot.result.index c.index-block.result.now
+    let content : canonical (value_bits c.args.self.now.size.nodes) (entries (step (map_in (part_in c.index-block.result.now) c.spot-spot.result.group) (record { block = c.spot-spot.result.block; group = c.spot-spot.result.group; key = c.key-key.result; to = c.wanted.result }))) ≡ Some c.in_ok-content.content =
+    rw bits at c.in_ok-content.ensures.record in (
+      seen_accepted c.args.self.now c.args.update c.spot-spot.result.block c.spot-spot.result.group c.spot-spot.result.index (part_in c.index-block.result.now)
           (record { block = c.spot-spot.result.block; group = c.spot-spot.result.group; key = c.key-key.result; to = c.wanted.result }) is_seen c.requires.owns c.spot-spot.ensures.some_node sound
           low flows is left c.in_ok-check_place.ensures (rw bits at c.in_ok-content.ensures.rows),
-      seen_turn c.args.self.now c.args.update c.spot-spot.result.block c.spot-spot.result.group c.spot-spot.result.index c.index-block.result.now
+      seen_turn c.args.self.now c.args.update c.spot-spot.result.block c.spot-spot.result.group c.spot-spot.result.index (part_in c.index-block.result.now)
           (record { block = c.spot-spot.result.block; group = c.spot-spot.result.group; key = c.key-key.result; to = c.wanted.result }) is_seen c.requires.owns c.spot-spot.ensures.some_node sound
           low flows is _ (ap (λ (n : ℕ). n + 1) (c.len-turns.ensures ∙ ap (λ (r : Rib). length r.journal.changes) c.self.view_is)) refl content
-          (c.of-fib.ensures ∙ ap (plan_of c.args.update) (c.find.ensures ∙ ap (λ key. flow_at key (map_in c.index-block.result.now c.spot-spot.result.group)) c.key-key.ensures)),
+          (c.of-fib.ensures ∙ ap (plan_of c.args.update) before),
     )
 
 pub returns-clause-stands : goal.returns-clause-stands
 returns-clause-stands c flows is =
-    let held : Rib = record { size = c.self.inside.shape; number = c.self.inside.number; parts = c.self.inside.blocks.items; journal = c.self.inside.journal } in
-    let is_seen : IsSeen c.args.self.now c.args.update c.spot-spot.result.block c.spot-spot.result.group c.spot-spot.result.index c.index-block.result.now
+    let is_seen : IsSeen c.args.self.now c.args.update c.spot-spot.result.block c.spot-spot.result.group c.spot-spot.result.index (part_in c.index-block.result.now)
     (record { block = c.spot-spot.result.block; group = c.spot-spot.result.group; key = c.key-key.result; to = c.wanted.result }) =
-    seen c.args.self.now held c.self.view_is c.args.update c.key-key.result c.key-key.ensures c.spot-spot.result.block c.spot-spot.result.group c.spot-spot.result.index
+    seen c.args.self.now (record { size = c.self.inside.shape; number = c.self.inside.number; parts = map part_in c.self.inside.blocks.items; journal = c.self.inside.journal }) c.self.view_is
+    c.args.update c.key-key.result c.key-key.ensures c.spot-spot.result.block c.spot-spot.result.group c.spot-spot.result.index
     c.spot-spot.ensures.block c.spot-spot.ensures.index c.spot-spot.ensures.inside c.spot-spot.ensures.group c.spot-spot.ensures.in_range
-    c.index-block.result.now c.index-block.ensures c.wanted.result c.wanted.ensures in
+    (part_in c.index-block.result.now) (ap part_in c.index-block.ensures ∙ sym (get_or-map part_in c.self.inside.blocks.items c.spot-spot.result.index c.index-block.result.now)) c.wanted.result c.wanted.ensures in
     let sound : IsOwner c.args.self.now.size c.args.self.now.number c.args.self.now.parts =
     subst (λ (r : Rib). IsOwner r.size r.number r.parts) c.self.view_is c.self.invariant.owner in
     let low : (place c.args.self.now.size.blocks (updated_key c.args.update)).block < c.args.self.now.size.blocks = omega (arith, is_seen.block_is, c.spot-spot.ensures.below) in
-    let map_is : c.in_ok-map.map ≡ step (map_in c.index-block.result.now c.spot-spot.result.group) (record { block = c.spot-spot.result.block; group = c.spot-spot.result.group; key = c.key-key.result; to = c.wanted.result }) =
-    c.in_ok-map.ensures in
-    let there : c.spot-spot.result.index < length c.self.inside.blocks.items = omega (arith, c.spot-spot.ensures.inside, ap (λ (r : Rib). length r.parts) c.self.view_is) in
-    let mut_is : c.index_mut.result.now ≡ c.index-block.result.now =
-    c.index_mut.ensures.value ∙ get_or_default c.self.inside.blocks.items c.spot-spot.result.index _ no_part there
-    ∙ sym (c.index-block.ensures ∙ get_or_default c.self.inside.blocks.items c.spot-spot.result.index _ no_part there) in
-    let new_is : c.replace.new.self ≡ with_map c.index-block.result.now c.spot-spot.result.group c.in_ok-map.map c.rows.result =
-    c.replace.ensures ∙ ap (λ (p : Part). with_map p c.spot-spot.result.group c.in_ok-map.map c.rows.result) mut_is in
-    seen_stands c.args.self.now c.args.update c.spot-spot.result.block c.spot-spot.result.group c.spot-spot.result.index c.index-block.result.now
+    let there : c.spot-spot.result.index < length c.self.inside.blocks.items =
+    omega (arith, c.spot-spot.ensures.inside, ap (λ (r : Rib). length r.parts) c.self.view_is, length-map c.self.inside.blocks.items part_in) in
+    let mut_is : part_in c.index_mut-block.result.now ≡ (part_in c.index-block.result.now) =
+    ap part_in
+    (c.index_mut-block.ensures.value ∙ get_or_default c.self.inside.blocks.items c.spot-spot.result.index _ c.index-block.result.now there ∙ sym c.index-block.ensures) in
+    let is_changed : IsChanged (part_in c.index-block.result.now) (part_in c.change.new.self) c.spot-spot.result.group c.rows.result (record { block = c.spot-spot.result.block; group = c.spot-spot.result.group; key = c.key-key.result; to = c.wanted.result }) =
+    changed c.index_mut-block.result.now c.reserve.new.self c.change.new.self (part_in c.index-block.result.now) c.spot-spot.result.bucket c.spot-spot.result.group c.rows.result (record { block = c.spot-spot.result.block; group = c.spot-spot.result.group; key = c.key-key.result; to = c.wanted.result })
+    mut_is c.reserve.ensures.choices c.reserve.ensures.rows c.reserve.ensures.buckets c.change.ensures.choices c.change.ensures.rows c.change.ensures.maps c.change.ensures.map
+    (is_seen.group_is ∙ ap (λ (p : Part). group_of p.choices (place c.args.self.now.size.blocks (updated_key c.args.update)).bucket) (sym is_seen.found_is)
+    ∙ ap (group_of (part_in c.index-block.result.now).choices) (ap (λ (k : FlowKey). (place c.args.self.now.size.blocks k).bucket) (sym c.key-key.ensures) ∙ sym c.spot-spot.ensures.bucket)) in
+    seen_stands c.args.self.now c.args.update c.spot-spot.result.block c.spot-spot.result.group c.spot-spot.result.index (part_in c.index-block.result.now)
     (record { block = c.spot-spot.result.block; group = c.spot-spot.result.group; key = c.key-key.result; to = c.wanted.result }) is_seen c.requires.owns c.spot-spot.ensures.some_node sound
-    low flows is _ c.in_ok-map.map c.rows.result c.replace.new.self (ap (λ (r : Rib). r.size) c.self.view_is) (ap (λ (r : Rib). r.number) c.self.view_is)
-    (ap (λ (r : Rib). set r.parts c.spot-spot.result.index c.replace.new.self) c.self.view_is) new_is map_is
-    (c.push.ensures.changes ∙ ap (λ (cs : List Change). cs ++ (record { block = c.spot-spot.result.block; group = c.spot-spot.result.group; key = c.key-key.result; to = c.wanted.result }) ∷ []) (c.in_ok-reserve.ensures.changes ∙ ap (λ (r : Rib). r.journal.changes) c.self.view_is))
+    low flows is _ (map_in (part_in c.change.new.self) c.spot-spot.result.group) c.rows.result (part_in c.change.new.self) (ap (λ (r : Rib). r.size) c.self.view_is) (ap (λ (r : Rib). r.number) c.self.view_is)
+    (map-set part_in c.self.inside.blocks.items c.spot-spot.result.index c.change.new.self
+    ∙ ap (λ (r : Rib). set r.parts c.spot-spot.result.index (part_in c.change.new.self)) c.self.view_is) is_changed.part_is is_changed.map_is
+    (c.push.ensures.changes ∙ ap (λ (cs : List Change). cs ++ (record { block = c.spot-spot.result.block; group = c.spot-spot.result.group; key = c.key-key.result; to = c.wanted.result }) ∷ []) (c.in_ok-reserve-2.ensures.changes ∙ ap (λ (r : Rib). r.journal.changes) c.self.view_is))
 
 pub returns-in_err-check_place-clause-removes : goal.returns-in_err-check_place-clause-removes
 returns-in_err-check_place-clause-removes c key block needed free removes err =
@@ -198,23 +289,23 @@ returns-in_err-check_place-clause-removes c key block needed free removes err =
     same_err c.from_residual.result c.in_err-check_place.field-0.0 (RowsFull block needed free)
     (err_is c.from_residual.result c.in_err-check_place.field-0.0 c.from_residual.ensures.1) err in
     place_not_rows c.args.update key removes
-    (grounds_in 0 0 (record { block = c.spot-spot.result.block; group = c.spot-spot.result.group }) (map_in c.index-block.result.now) c.args.update) block needed free
+    (grounds_in 0 0 (record { block = c.spot-spot.result.block; group = c.spot-spot.result.group }) (map_in (part_in c.index-block.result.now)) c.args.update) block needed free
     (subst
     (λ (e : UpdateRefused).
     IsFor
     (refusal_of_place c.args.update
-    (grounds_in 0 0 (record { block = c.spot-spot.result.block; group = c.spot-spot.result.group }) (map_in c.index-block.result.now) c.args.update))
+    (grounds_in 0 0 (record { block = c.spot-spot.result.block; group = c.spot-spot.result.group }) (map_in (part_in c.index-block.result.now)) c.args.update))
     e)
     same (c.in_err-check_place.ensures 0 0))
 
 pub returns-in_err-content-clause-removes : goal.returns-in_err-content-clause-removes
 returns-in_err-content-clause-removes c key block needed free removes err =
-    let held : Rib = record { size = c.self.inside.shape; number = c.self.inside.number; parts = c.self.inside.blocks.items; journal = c.self.inside.journal } in
-    let is_seen : IsSeen c.args.self.now c.args.update c.spot-spot.result.block c.spot-spot.result.group c.spot-spot.result.index c.index-block.result.now
+    let is_seen : IsSeen c.args.self.now c.args.update c.spot-spot.result.block c.spot-spot.result.group c.spot-spot.result.index (part_in c.index-block.result.now)
     (record { block = c.spot-spot.result.block; group = c.spot-spot.result.group; key = c.key-key.result; to = c.wanted.result }) =
-    seen c.args.self.now held c.self.view_is c.args.update c.key-key.result c.key-key.ensures c.spot-spot.result.block c.spot-spot.result.group c.spot-spot.result.index
+    seen c.args.self.now (record { size = c.self.inside.shape; number = c.self.inside.number; parts = map part_in c.self.inside.blocks.items; journal = c.self.inside.journal }) c.self.view_is
+    c.args.update c.key-key.result c.key-key.ensures c.spot-spot.result.block c.spot-spot.result.group c.spot-spot.result.index
     c.spot-spot.ensures.block c.spot-spot.ensures.index c.spot-spot.ensures.inside c.spot-spot.ensures.group c.spot-spot.ensures.in_range
-    c.index-block.result.now c.index-block.ensures c.wanted.result c.wanted.ensures in
+    (part_in c.index-block.result.now) (ap part_in c.index-block.ensures ∙ sym (get_or-map part_in c.self.inside.blocks.items c.spot-spot.result.index c.index-block.result.now)) c.wanted.result c.wanted.ensures in
     let sound : IsOwner c.args.self.now.size c.args.self.now.number c.args.self.now.parts =
     subst (λ (r : Rib). IsOwner r.size r.number r.parts) c.self.view_is c.self.invariant.owner in
     let size_is : c.self.inside.shape ≡ c.args.self.now.size = ap (λ (r : Rib). r.size) c.self.view_is in
@@ -222,20 +313,12 @@ returns-in_err-content-clause-removes c key block needed free removes err =
     let same : c.in_err-content.field-0.0 ≡ RowsFull block needed free =
     same_err c.from_residual-in_err-content.result c.in_err-content.field-0.0 (RowsFull block needed free)
     (err_is c.from_residual-in_err-content.result c.in_err-content.field-0.0 c.from_residual-in_err-content.ensures.1) err in
-    let full : refusal_in_rows (value_bits c.args.self.now.size.nodes) c.index-block.result.now
-    (record { block = c.spot-spot.result.block; group = c.spot-spot.result.group; key = c.key-key.result; to = c.wanted.result }) ≡ Some (RowsFull block needed free) =
-    subst
-    (λ (e : UpdateRefused).
-    IsFor
-    (refusal_in_rows (value_bits c.args.self.now.size.nodes) c.index-block.result.now
-    (record { block = c.spot-spot.result.block; group = c.spot-spot.result.group; key = c.key-key.result; to = c.wanted.result }))
-    e)
+    let full : refusal_in_rows (value_bits c.args.self.now.size.nodes) (part_in c.index-block.result.now) (record { block = c.spot-spot.result.block; group = c.spot-spot.result.group; key = c.key-key.result; to = c.wanted.result }) ≡ Some (RowsFull block needed free) =
+    subst (λ (e : UpdateRefused). IsFor (refusal_in_rows (value_bits c.args.self.now.size.nodes) (part_in c.index-block.result.now) (record { block = c.spot-spot.result.block; group = c.spot-spot.result.group; key = c.key-key.result; to = c.wanted.result })) e)
     same (rw bits at c.in_err-content.ensures.rows) in
-    let none : refusal_in_rows (value_bits c.args.self.now.size.nodes) c.index-block.result.now
-    (record { block = c.spot-spot.result.block; group = c.spot-spot.result.group; key = c.key-key.result; to = c.wanted.result }) ≡ None =
-    removed_fits (value_bits c.args.self.now.size.nodes) c.index-block.result.now
-    (record { block = c.spot-spot.result.block; group = c.spot-spot.result.group; key = c.key-key.result; to = c.wanted.result })
-    (found_kept c.args.self.now c.args.update c.spot-spot.result.block c.spot-spot.result.group c.spot-spot.result.index c.index-block.result.now
+    let none : refusal_in_rows (value_bits c.args.self.now.size.nodes) (part_in c.index-block.result.now) (record { block = c.spot-spot.result.block; group = c.spot-spot.result.group; key = c.key-key.result; to = c.wanted.result }) ≡ None =
+    removed_fits (value_bits c.args.self.now.size.nodes) (part_in c.index-block.result.now) (record { block = c.spot-spot.result.block; group = c.spot-spot.result.group; key = c.key-key.result; to = c.wanted.result })
+    (found_kept c.args.self.now c.args.update c.spot-spot.result.block c.spot-spot.result.group c.spot-spot.result.index (part_in c.index-block.result.now)
     (record { block = c.spot-spot.result.block; group = c.spot-spot.result.group; key = c.key-key.result; to = c.wanted.result }) is_seen c.requires.owns c.spot-spot.ensures.some_node sound)
     c.spot-spot.ensures.in_range (c.wanted.ensures ∙ ap wanted removes) in
     cc

@@ -1,0 +1,81 @@
+use Rattle.std.proofs.Common.{◌≡◌, ◌∙◌, ℕ, Option, Some, None, length, set, ap, subst, sym, arith}
+use Rattle.std.specs.Prelude.{IsPermutation}
+use Rattle.bucket_arena.specs.Arena.{item_count}
+use Rattle.flow_types.specs.declared.record.Record.{Record}
+use Rattle.flow_types.specs.Map.{without}
+use Rattle.group_search.specs.Home.{group_of}
+use Rattle.group_history.specs.Change.{step, with_at}
+use Rattle.rib_owner.specs.Acceptance.{keys_in}
+use Rattle.rib_owner.specs.Rib.{map_in}
+use Rattle.rib_owner.specs.Stock.{ArePlaced, Stock, part_in}
+use Rattle.rib_owner.proofs.Stocked.{all_flows, distinct_bucket, in_bucket, map_stepped, maps_changed, put_removed}
+use Rattle.rib_owner.proofs.block.OwnedBlock.change.Goals as goal
+use Rattle.rib_owner.proofs.block.OwnedBlock.change.Goals.{After-put, In_default}
+
+pub remove-requires-clause-distinct : goal.remove-requires-clause-distinct
+remove-requires-clause-distinct c =
+    rw c.set_rows.ensures
+    (distinct_bucket c.args.self.now.choices c.args.self.now.arena.buckets c.args.bucket (omega arith) c.requires.distinct)
+
+pub put-requires-clause-few : goal.put-requires-clause-few
+put-requires-clause-few c =
+    let whole : keys_in (map_in (part_in c.args.self.now)) ≡ item_count c.args.self.now.arena =
+    subst (λ (s : Stock). keys_in (map_in (part_in s)) ≡ item_count s.arena) c.self.view_is
+    (all_flows c.self.inside.choices c.self.inside.arena.buckets c.self.invariant.one_list_each) in
+    let before : item_count c.set_rows.new.self.arena ≡ item_count c.args.self.now.arena = ap (λ (s : Stock). item_count s.arena) c.set_rows.ensures in
+    omega (arith, whole, before, c.remove.ensures.count, c.requires.few)
+
+-- the bucket where the key goes
+entered : (c : After-put) → c.put.new.self.arena.buckets
+    ≡ set c.args.self.now.arena.buckets c.args.bucket (with_at c.args.change.now.key (Some (c.in-Some.node, c.in-Some.info)) (in_bucket c.args.self.now.arena.buckets c.args.bucket))
+entered c =
+    let each : length c.args.self.now.arena.buckets ≡ 256 = subst (λ (s : Stock). length s.arena.buckets ≡ 256) c.self.view_is c.self.invariant.one_list_each in
+    put_removed c.args.self.now.arena.buckets c.remove.new.self.arena.buckets c.put.new.self.arena.buckets c.args.bucket c.args.change.now.key (c.in-Some.node, c.in-Some.info)
+    (omega arith)
+    (c.remove.ensures.buckets ∙ ap (λ (s : Stock). set s.arena.buckets c.args.bucket (without c.args.change.now.key (in_bucket s.arena.buckets c.args.bucket))) c.set_rows.ensures)
+    c.put.ensures.buckets
+
+pub returns-in-Some-clause-maps : goal.returns-in-Some-clause-maps
+returns-in-Some-clause-maps c =
+    maps_changed c.args.self.now.choices c.put.new.self.choices c.args.self.now.arena.buckets c.put.new.self.arena.buckets c.args.bucket _
+    (c.put.ensures.choices ∙ c.remove.ensures.choices ∙ ap (λ (s : Stock). s.choices) c.set_rows.ensures)
+    (entered c)
+
+pub returns-in-Some-clause-map : goal.returns-in-Some-clause-map
+unfolding step
+returns-in-Some-clause-map c =
+    let each : length c.args.self.now.arena.buckets ≡ 256 = subst (λ (s : Stock). length s.arena.buckets ≡ 256) c.self.view_is c.self.invariant.one_list_each in
+    let placed : ArePlaced c.args.self.now.arena.buckets = subst (λ (s : Stock). ArePlaced s.arena.buckets) c.self.view_is c.self.invariant.placed in
+    let stepped = map_stepped c.args.self.now.choices c.put.new.self.choices c.args.self.now.arena.buckets c.put.new.self.arena.buckets c.args.bucket c.args.change.now.key
+    (Some (c.in-Some.node, c.in-Some.info)) c.requires.bucket each placed
+    (c.put.ensures.choices ∙ c.remove.ensures.choices ∙ ap (λ (s : Stock). s.choices) c.set_rows.ensures) (entered c) in
+    subst
+    (λ (to : Option (ℕ × Record)).
+    IsPermutation (with_at c.args.change.now.key to (map_in (part_in c.args.self.now) (group_of c.args.self.now.choices c.args.bucket)))
+    (map_in (part_in c.put.new.self) (group_of c.args.self.now.choices c.args.bucket)))
+    (sym c.in-Some.is) stepped
+
+-- the bucket that the key leaves
+left : (c : In_default) → c.remove.new.self.arena.buckets
+    ≡ set c.args.self.now.arena.buckets c.args.bucket (with_at c.args.change.now.key None (in_bucket c.args.self.now.arena.buckets c.args.bucket))
+left c = c.remove.ensures.buckets ∙ ap (λ (s : Stock). set s.arena.buckets c.args.bucket (without c.args.change.now.key (in_bucket s.arena.buckets c.args.bucket))) c.set_rows.ensures
+
+pub returns-in_default-clause-maps : goal.returns-in_default-clause-maps
+returns-in_default-clause-maps c =
+    maps_changed c.args.self.now.choices c.remove.new.self.choices c.args.self.now.arena.buckets c.remove.new.self.arena.buckets c.args.bucket _
+    (c.remove.ensures.choices ∙ ap (λ (s : Stock). s.choices) c.set_rows.ensures)
+    (left c)
+
+pub returns-in_default-clause-map : goal.returns-in_default-clause-map
+unfolding step
+returns-in_default-clause-map c =
+    let each : length c.args.self.now.arena.buckets ≡ 256 = subst (λ (s : Stock). length s.arena.buckets ≡ 256) c.self.view_is c.self.invariant.one_list_each in
+    let placed : ArePlaced c.args.self.now.arena.buckets = subst (λ (s : Stock). ArePlaced s.arena.buckets) c.self.view_is c.self.invariant.placed in
+    let stepped = map_stepped c.args.self.now.choices c.remove.new.self.choices c.args.self.now.arena.buckets c.remove.new.self.arena.buckets c.args.bucket c.args.change.now.key
+    None c.requires.bucket each placed
+    (c.remove.ensures.choices ∙ ap (λ (s : Stock). s.choices) c.set_rows.ensures) (left c) in
+    subst
+    (λ (to : Option (ℕ × Record)).
+    IsPermutation (with_at c.args.change.now.key to (map_in (part_in c.args.self.now) (group_of c.args.self.now.choices c.args.bucket)))
+    (map_in (part_in c.remove.new.self) (group_of c.args.self.now.choices c.args.bucket)))
+    (sym c.in_default.is) stepped
