@@ -1,13 +1,15 @@
 //! A program that measures the table's parts, with fixed seeds.
 //!
 //! Without words it prints a checksum of each work, the same on every machine. With the word `time` it also says how
-//! long each took. With the word `cells` it measures groups rewritten in place, by one thread and by several. With the
-//! word `rows` it reads standard input and counts its rows, and does nothing else.
+//! long each took. With the word `cells` it measures groups rewritten in place, and with the word `fibs` finds in a FIB
+//! that readers share, by one thread and by several. With the word `rows` it reads standard input and counts its rows,
+//! and does nothing else.
 #![tactic(auto)]
 
 mod building;
 mod cells;
 mod choosing;
+mod fibs;
 mod keys;
 mod reading;
 mod searching;
@@ -65,8 +67,9 @@ fn main(rt: HostRuntime) -> io::Result<()> {
                 cells::tell(&rt, "cells_look_of_three_beside_a_writer", b)?;
                 cells::tell(&rt, "cells_look_of_three_beside_a_writer", c)
             }
+            "fibs" => fibs::figures(&rt),
             "rows" => reading::count(&rt),
-            _ => eprintln!(&rt; "bench: the words are none, `time`, `cells` or `rows`"),
+            _ => eprintln!(&rt; "bench: the words are none, `time`, `cells`, `fibs` or `rows`"),
         },
     }
 }
