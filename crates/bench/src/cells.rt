@@ -76,7 +76,8 @@ pub fn tell(rt: &impl Print, name: &str, run: Run) -> io::Result<()> {
     println!(rt; "{name} {TIMES} {nanos} {} {}", run.changing, run.nodes)
 }
 
-fn since(rt: &impl Clock, start: io::Result<Instant>) -> Duration {
+/// How long it is since the start, or nothing where the clock can't be read.
+pub fn since(rt: &impl Clock, start: io::Result<Instant>) -> Duration {
     let Ok(start) = start else {
         return Duration::ZERO;
     };

@@ -4,6 +4,7 @@ ghost use Rattle.std.specs.Prelude.{◌≡◌, ◌≤◌, IfOk};
 ghost use Rattle.delta_codec.specs.Fits.{Fits};
 ghost use Rattle.node_link.specs.Rule.{size_of};
 
+use crate::cells::since;
 use crate::keys::key;
 use delta_codec::{FibMessage, FibOp, Message};
 use flow_types::{Record, Shape};
@@ -39,13 +40,6 @@ pub fn figures<R: Print + AllocGlobal + Clock + Threads + Wait + Sync>(rt: &R) -
 
 fn tell(rt: &impl Print, name: &str, taken: Duration, turns: u64) -> io::Result<()> {
     println!(rt; "{name} {TIMES} {} {turns}", taken.as_nanos())
-}
-
-fn since(rt: &impl Clock, start: io::Result<Instant>) -> Duration {
-    let Ok(start) = start else {
-        return Duration::ZERO;
-    };
-    start.elapsed(rt).unwrap_or(Duration::ZERO)
 }
 
 /// The message of a turn, one of 65,535 in turn: a key is put.

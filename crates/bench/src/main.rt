@@ -1,14 +1,16 @@
 //! A program that measures the table's parts, with fixed seeds.
 //!
 //! Without words it prints a checksum of each work, the same on every machine. With the word `time` it also says how
-//! long each took. With the word `cells` it measures groups rewritten in place, by one thread and by several, with the
-//! word `links` messages through a link, and with the word `workers` builds by one worker and by several. With the word
-//! `rows` it reads standard input and counts its rows, and does nothing else.
+//! long each took. With the word `cells` it measures groups rewritten in place, with the word `fibs` finds in a FIB that
+//! readers share, and with the word `links` messages through a link, by one thread and by several. With the word `workers`
+//! it measures builds by one worker and by several. With the word `rows` it reads standard input and counts its rows, and
+//! does nothing else.
 #![tactic(auto)]
 
 mod building;
 mod cells;
 mod choosing;
+mod fibs;
 mod keys;
 mod links;
 mod reading;
@@ -69,14 +71,11 @@ fn main(rt: HostRuntime) -> io::Result<()> {
                 cells::tell(&rt, "cells_look_of_three_beside_a_writer", b)?;
                 cells::tell(&rt, "cells_look_of_three_beside_a_writer", c)
             }
+            "fibs" => fibs::figures(&rt),
             "links" => links::figures(&rt),
             "workers" => workers::figures(&rt),
             "rows" => reading::count(&rt),
-            _ => {
-                eprintln!(&rt;
-                    "bench: the words are none, `time`, `cells`, `links`, `workers` or `rows`"
-                )
-            }
+            _ => eprintln!(&rt; "bench: no word, or `time`, `cells`, `fibs`, `links`, `workers` or `rows`"),
         },
     }
 }
