@@ -75,7 +75,9 @@ fn main(rt: HostRuntime) -> io::Result<()> {
             "links" => links::figures(&rt),
             "workers" => workers::figures(&rt),
             "rows" => reading::count(&rt),
-            _ => eprintln!(&rt; "bench: no word, or `time`, `cells`, `fibs`, `links`, `workers` or `rows`"),
+            _ => eprintln!(&rt;
+                "bench: no word, or `time`, `cells`, `fibs`, `links`, `workers` or `rows`"
+            ),
         },
     }
 }
