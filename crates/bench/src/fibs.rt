@@ -171,10 +171,11 @@ fn end<R: Print + Wait>(rt: &R, task: Task, readers: u8, name: &str) -> io::Resu
     }
 }
 
-/// Prints a line: a name, how many readers there were, how often it was done, the nanoseconds, and the sum of what was found.
+/// Prints a line: a name with how many readers there were, how often it was done, the nanoseconds, and the sum of what was
+/// found.
 fn tell(rt: &impl Print, name: &str, readers: u8, run: Run) -> io::Result<()> {
     let nanos = run.taken.as_nanos();
-    println!(rt; "{name} {readers} {} {nanos} {}", run.times, run.sum)
+    println!(rt; "{name}_of_{readers} {} {nanos} {}", run.times, run.sum)
 }
 
 /// A shared FIB of one block, without a record, or nothing for want of memory.
