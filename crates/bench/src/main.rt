@@ -3,10 +3,11 @@
 //! Without words it prints a checksum of each work, the same on every machine. With the word `time` it also says how
 //! long each took. With the word `cells` it measures groups rewritten in place, with the word `fibs` finds in a FIB that
 //! readers share, and with the word `links` messages through a link, by one thread and by several. With the word `workers`
-//! it measures builds by one worker and by several. With the word `rows` it reads standard input and counts its rows, and
-//! does nothing else.
+//! it measures builds by one worker and by several, and with the word `arena` an arena's lists beside vectors. With the
+//! word `rows` it reads standard input and counts its rows, and does nothing else.
 #![tactic(auto)]
 
+mod arena;
 mod building;
 mod cells;
 mod choosing;
@@ -74,9 +75,10 @@ fn main(rt: HostRuntime) -> io::Result<()> {
             "fibs" => fibs::figures(&rt),
             "links" => links::figures(&rt),
             "workers" => workers::figures(&rt),
+            "arena" => arena::figures(&rt),
             "rows" => reading::count(&rt),
             _ => eprintln!(&rt;
-                "bench: no word, or `time`, `cells`, `fibs`, `links`, `workers` or `rows`"
+                "bench: no word, or `time`, `cells`, `fibs`, `links`, `workers`, `arena` or `rows`"
             ),
         },
     }
