@@ -47,8 +47,8 @@ module _ (size : Size) (flows : List Flow) (all : List Placed) (are : ArePlaced 
   -- all flows where they stand have keys of their own
   pub all_apart : HaveDistinctKeys placed_key all
   all_apart =
-      AllPairs-permutation (λ (a : Placed) (b : Placed). number a.entry.key ≢ number b.entry.key) (λ a b other same. other (sym same)) (map (placed size.blocks) flows) all are.each
-      (all_pairs_mapped (λ (a : Placed) (b : Placed). number a.entry.key ≢ number b.entry.key) (placed size.blocks) no_flow flows distinct)
+      AllPairs-permutation (λ (a : Placed) (b : Placed). number a.key ≢ number b.key) (λ a b other same. other (sym same)) (map (placed size.blocks) flows) all are.each
+      (all_pairs_mapped (λ (a : Placed) (b : Placed). number a.key ≢ number b.key) (placed size.blocks) no_flow flows distinct)
 
   same_flows : (block : ℕ) → IsPermutation (opened size.blocks block flows) (placed_in block all)
   unfolding opened placed_in flows_of

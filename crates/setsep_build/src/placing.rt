@@ -3,8 +3,7 @@ ghost use Rattle.setsep_build.specs.Placing as placing;
 
 use crate::placed::Placed;
 use flow_types::{Flow, Shape};
-use group_search::Entry;
-use hash_family::{pair, place};
+use hash_family::place;
 use rayon::prelude::*;
 use std::alloc::{AllocError, Global};
 use std::thread::Threads;
@@ -47,13 +46,10 @@ fn placed(shape: Shape, flow: Flow) -> Placed
 {
     let at = place(shape, flow.key);
     Placed {
+        key: flow.key,
         block: at.block,
         bucket: at.bucket,
-        entry: Entry {
-            pair: pair(flow.key),
-            key: flow.key,
-            node: flow.node,
-        },
+        node: flow.node,
     }
 }
 
@@ -67,6 +63,6 @@ fn in_order<R: Threads + Sync>(rt: &R, all: &mut [Placed])
         all,
         |one: &Placed| -> (u16, u8, u128)
             ensures { result ≡ placing.rank one.now }
-        { (one.block, one.bucket, one.entry.key.number()) },
+        { (one.block, one.bucket, one.key.number()) },
     );
 }

@@ -77,7 +77,7 @@ fn puts_flows_in_order(rt: HostRuntime) -> Result<(), Fail> {
     let flows = flows(alloc, shape, 5_000, 16, &[], None)?;
     let all = place_all(&rt, alloc, shape, flows.as_slice())?;
     assert_eq!(rt; all.len(), 5_000);
-    let rank = |one: &Placed| (one.block, one.bucket, one.entry.key.number());
+    let rank = |one: &Placed| (one.block, one.bucket, one.key.number());
     for (one, next) in all.iter().zip(all.iter().skip(1)) {
         assert!(rt; rank(one) < rank(next));
     }
