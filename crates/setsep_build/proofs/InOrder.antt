@@ -43,14 +43,14 @@ pub no_later : (a b : Placed) → is_lt (in_rank (rank b) (rank a)) ≡ false �
 no_later a b not_back =
     ⊎_elim
     (λ (less : a.block < b.block). inl less)
-    (λ (rest : (a.block ≡ b.block) × (is_lt (ordering_then (nat_cmp b.bucket a.bucket) (nat_cmp (number b.entry.key) (number a.entry.key))) ≡ false)).
+    (λ (rest : (a.block ≡ b.block) × (is_lt (ordering_then (nat_cmp b.bucket a.bucket) (nat_cmp (number b.key) (number a.key))) ≡ false)).
     ⊎_elim
     (λ (less : a.bucket < b.bucket). inr (rest.0, inl less))
-    (λ (key : (a.bucket ≡ b.bucket) × (is_lt (nat_cmp (number b.entry.key) (number a.entry.key)) ≡ false)).
-    inr (rest.0, inr (key.0, last (number a.entry.key) (number b.entry.key) key.1)))
-    (numbers a.bucket b.bucket (nat_cmp (number b.entry.key) (number a.entry.key)) rest.1))
-    (numbers a.block b.block (ordering_then (nat_cmp b.bucket a.bucket) (nat_cmp (number b.entry.key) (number a.entry.key)))
-    (sym (ap is_lt (then_then (nat_cmp b.block a.block) (nat_cmp b.bucket a.bucket) (nat_cmp (number b.entry.key) (number a.entry.key)))) ∙ not_back))
+    (λ (key : (a.bucket ≡ b.bucket) × (is_lt (nat_cmp (number b.key) (number a.key)) ≡ false)).
+    inr (rest.0, inr (key.0, last (number a.key) (number b.key) key.1)))
+    (numbers a.bucket b.bucket (nat_cmp (number b.key) (number a.key)) rest.1))
+    (numbers a.block b.block (ordering_then (nat_cmp b.bucket a.bucket) (nat_cmp (number b.key) (number a.key)))
+    (sym (ap is_lt (then_then (nat_cmp b.block a.block) (nat_cmp b.bucket a.bucket) (nat_cmp (number b.key) (number a.key)))) ∙ not_back))
 
 -- what the sort gives is in order
 pub sorted_in_order : (all : List Placed) → IsSortedByKey rank in_rank all → AreInOrder all

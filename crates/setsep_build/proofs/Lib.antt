@@ -11,3 +11,4 @@ pub mod FirstPast
 pub mod JoinedParts
 pub mod RunFacts
 pub mod WholeBuild
+pub mod OfRun

@@ -63,7 +63,7 @@ module _ (blocks block : ℕ) (flows : List Flow) where
   pub apart : AreDistinct flows → HaveDistinctKeys placed_key (opened blocks block flows)
   unfolding opened flows_of
   apart distinct =
-      all_pairs_mapped (λ (a : Placed) (b : Placed). number a.entry.key ≢ number b.entry.key) (placed blocks) no_flow (filter (is_in blocks block) flows)
+      all_pairs_mapped (λ (a : Placed) (b : Placed). number a.key ≢ number b.key) (placed blocks) no_flow (filter (is_in blocks block) flows)
       (AllPairs-filter (λ (a : Flow) (b : Flow). number a.key ≢ number b.key) (is_in blocks block) flows distinct)
 
   -- a flow of the block has the home of its bucket's group

@@ -12,13 +12,10 @@ use Rattle.setsep_build.specs.Placing.{is_group, entry_in, gathered}
 -- what is read past the end of a list of placed flows
 abbrev pub nobody : Placed
 nobody = record {
+  key = record { source = 0; destination = 0; source_port = 0; destination_port = 0; protocol = 0 };
   block = 0;
   bucket = 0;
-  entry = record {
-    pair = record { g1 = 0; g2 = 0 };
-    key = record { source = 0; destination = 0; source_port = 0; destination_port = 0; protocol = 0 };
-    node = 0;
-  };
+  node = 0;
 }
 
 module _ (groups : List ℕ) (group : ℕ) (all : List Placed) (i : ℕ) (d : Placed) (inside : i < length all) where
@@ -31,7 +28,7 @@ module _ (groups : List ℕ) (group : ℕ) (all : List Placed) (i : ℕ) (d : Pl
       ∙ ap (λ (b : Bool). map entry_in (filter (is_group groups group) (take i all)) ++ map entry_in (cond b (get_or all i d ∷ []) [])) e
 
   pub gathered_yes : is_group groups group (get_or all i d) ≡ true
-      → gathered groups group (take (i + 1) all) ≡ gathered groups group (take i all) ++ (get_or all i d).entry ∷ []
+      → gathered groups group (take (i + 1) all) ≡ gathered groups group (take i all) ++ entry_in (get_or all i d) ∷ []
   gathered_yes e = gathered_more true e
 
   pub gathered_no : is_group groups group (get_or all i d) ≡ false → gathered groups group (take (i + 1) all) ≡ gathered groups group (take i all)
@@ -45,13 +42,13 @@ gathered_none groups group = refl
 -- an entry goes into the group of its bucket
 module _ (groups : List ℕ) (all : List Placed) (i at : ℕ) (found : List (List Entry)) (inside : i < length all) (is_at : at ≡ get_or groups (get_or all i nobody).bucket 0) (in_range : at < length found)
     (so_far : (group : ℕ) → group < 64 → get_or found group [] ≡ gathered groups group (take i all)) where
-  pub one_gathered : (group : ℕ) → group < 64 → get_or (set found at (get_or found at [] ++ (get_or all i nobody).entry ∷ [])) group [] ≡ gathered groups group (take (i + 1) all)
+  pub one_gathered : (group : ℕ) → group < 64 → get_or (set found at (get_or found at [] ++ entry_in (get_or all i nobody) ∷ [])) group [] ≡ gathered groups group (take (i + 1) all)
   one_gathered group low =
       ⊎_elim
       (λ (same : group ≡ at).
       let yes : is_group groups group (get_or all i nobody) ≡ true = eq-eqb _ _ (sym is_at ∙ sym same) in
-      get_or-set_at found at group _ [] same in_range ∙ ap (λ (g : ℕ). get_or found g [] ++ (get_or all i nobody).entry ∷ []) (sym same)
-      ∙ ap (λ (l : List Entry). l ++ (get_or all i nobody).entry ∷ []) (so_far group low) ∙ sym (gathered_yes groups group all i nobody inside yes))
+      get_or-set_at found at group _ [] same in_range ∙ ap (λ (g : ℕ). get_or found g [] ++ entry_in (get_or all i nobody) ∷ []) (sym same)
+      ∙ ap (λ (l : List Entry). l ++ entry_in (get_or all i nobody) ∷ []) (so_far group low) ∙ sym (gathered_yes groups group all i nobody inside yes))
       (λ (other : group ≢ at).
       let no : is_group groups group (get_or all i nobody) ≡ false = ne_eqb _ _ (λ e. other (sym e ∙ sym is_at)) in
       get_or-set_other found at group _ [] other ∙ so_far group low ∙ sym (gathered_no groups group all i nobody inside no))

@@ -60,4 +60,4 @@ module _ (groups : List ℕ) (group : ℕ) (all : List Placed) where
   unfolding gathered
   gathered_distinct apart =
       all_pairs_mapped (λ (a : Entry) (b : Entry). number a.key ≢ number b.key) entry_in nobody (filter (is_group groups group) all)
-      (AllPairs-filter (λ (a : Placed) (b : Placed). number a.entry.key ≢ number b.entry.key) (is_group groups group) all apart)
+      (AllPairs-filter (λ (a : Placed) (b : Placed). number a.key ≢ number b.key) (is_group groups group) all apart)

@@ -19,7 +19,7 @@ use Rattle.setsep_build.specs.Placing.{is_block, placed_in, placed_key}
 -- the flows of a block have keys of their own where all have
 pub block_apart : (block : ℕ) (all : List Placed) → HaveDistinctKeys placed_key all → HaveDistinctKeys placed_key (placed_in block all)
 unfolding placed_in
-block_apart block all apart = AllPairs-filter (λ (a : Placed) (b : Placed). number a.entry.key ≢ number b.entry.key) (is_block block) all apart
+block_apart block all apart = AllPairs-filter (λ (a : Placed) (b : Placed). number a.key ≢ number b.key) (is_block block) all apart
 
 module _ (bits : ℕ) (all : List Placed) (first : ℕ) where
   pub none_so_far : (images : List Image) → images ≡ [] → AreImagesOf bits all first (first - first) images

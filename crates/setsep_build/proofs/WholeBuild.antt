@@ -20,7 +20,7 @@ use Rattle.setsep_build.specs.declared.refused.BuildRefused.TheVariants.{BlockFu
 use Rattle.setsep_build.specs.Block.{IsWithinIn}
 use Rattle.setsep_build.specs.Cut.{Cover}
 use Rattle.setsep_build.specs.Parts.{AreImagesOf, ArePartsOf, IsFirstPastIn, RefusesBlocks, before_all, joined}
-use Rattle.setsep_build.specs.Placing.{ArePlaced, is_block, placed, placed_in, placed_key}
+use Rattle.setsep_build.specs.Placing.{is_block, placed, placed_in, placed_key}
 use Rattle.setsep_build.specs.Refused.{Refuses, named_limit}
 use Rattle.setsep_build.proofs.CutFacts.{cover_up}
 use Rattle.setsep_build.proofs.FirstPast.{first_is, first_of_none, found_first, later_decide, past_none, past_some}
@@ -43,18 +43,18 @@ none_made : (size : Size) (flows : List Flow) (from : ℕ) → AreBuilt size flo
 unfolding first_past_limit
 none_made size flows from = record { within = refl; one_each = refl; each = λ place d low. absurd (omega arith) }
 
-module _ (size : Size) (flows : List Flow) (all : List Placed) (are : ArePlaced size.blocks flows all) (distinct : AreDistinct flows) where
+module _ (size : Size) (flows : List Flow) (all : List Placed) (are : IsPermutation (map (placed size.blocks) flows) all) (distinct : AreDistinct flows) where
   -- all flows where they stand have keys of their own
   pub all_apart : HaveDistinctKeys placed_key all
   all_apart =
-      AllPairs-permutation (λ (a : Placed) (b : Placed). number a.entry.key ≢ number b.entry.key) (λ a b other same. other (sym same)) (map (placed size.blocks) flows) all are.each
-      (all_pairs_mapped (λ (a : Placed) (b : Placed). number a.entry.key ≢ number b.entry.key) (placed size.blocks) no_flow flows distinct)
+      AllPairs-permutation (λ (a : Placed) (b : Placed). number a.key ≢ number b.key) (λ a b other same. other (sym same)) (map (placed size.blocks) flows) all are
+      (all_pairs_mapped (λ (a : Placed) (b : Placed). number a.key ≢ number b.key) (placed size.blocks) no_flow flows distinct)
 
   same_flows : (block : ℕ) → IsPermutation (opened size.blocks block flows) (placed_in block all)
   unfolding opened placed_in flows_of
   same_flows block =
       subst (λ (l : List Placed). IsPermutation l (filter (is_block block) all)) (filter_mapped (placed size.blocks) (is_block block) flows)
-      (filter_permuted (is_block block) (map (placed size.blocks) flows) all are.each)
+      (filter_permuted (is_block block) (map (placed size.blocks) flows) all are)
 
   none_past : (block : ℕ) → IsWithinIn (value_bits size.nodes) (placed_in block all) → past_limit_at size flows block ≡ None
   none_past block is =
@@ -168,7 +168,7 @@ module _ (size : Size) (flows : List Flow) where
   is_refused OutOfMemory is = tt
 
 -- the runs cover all blocks, and these are what they give
-module _ (size : Size) (flows : List Flow) (all : List Placed) (are : ArePlaced size.blocks flows all) (distinct : AreDistinct flows) {V : Type 0} (shown : V → List Image)
+module _ (size : Size) (flows : List Flow) (all : List Placed) (are : IsPermutation (map (placed size.blocks) flows) all) (distinct : AreDistinct flows) {V : Type 0} (shown : V → List Image)
     (cut : List Run) (parts : List (Result V BuildRefused)) (covers : Cover 0 size.blocks cut) (parts_are : ArePartsOf shown (value_bits size.nodes) all cut parts) where
   made : IsMade size flows 0 size.blocks (joined shown parts)
   made = let whole : size.blocks - 0 ≡ size.blocks = omega arith in

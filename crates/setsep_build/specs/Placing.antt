@@ -1,27 +1,35 @@
 -- The flows of the table as the build keeps them: each where it stands.
-use Rattle.std.specs.Prelude.{ℕ, ◌≡◌, ◌<◌, ◌≤◌, ◌==◌, ◌⊎◌, Bool, List, [], length, map, filter, count_by, slice_index, slice_index_or, IsPermutation}
+use Rattle.std.specs.Prelude.{ℕ, ◌≡◌, ◌+◌, ◌<◌, ◌≤◌, ◌==◌, ◌⊎◌, ◌&&◌, Bool, List, [], length, map, filter, nat_lt, nat_le, count_by, slice_index, slice_index_or, IsPermutation}
 use Rattle.std.specs.List.{range_with_len, AllAdjacentBelow}
 use Rattle.flow_types.specs.declared.key.FlowKey.{FlowKey}
 use Rattle.flow_types.specs.declared.record.Flow.{Flow}
 use Rattle.flow_types.specs.Key.{number}
-use Rattle.hash_family.specs.Hash.{place}
+use Rattle.hash_family.specs.declared.bucket.Place.{Place}
+use Rattle.hash_family.specs.Hash.{pair, place}
 use Rattle.block_layout.specs.Limits.{bucket_count}
 use Rattle.group_search.specs.declared.entry.Entry.{Entry}
 use Rattle.group_search.specs.Home.{group_of}
-use Rattle.group_search.specs.Records.{entry_of}
+use Rattle.setsep_build.specs.declared.cutting.Run.{Run}
 use Rattle.setsep_build.specs.declared.placed.Placed.{Placed}
 
 -- the flow in its block and bucket
+abbrev pub placed_at : Place → Flow → Placed
+placed_at at flow = record { key = flow.key; block = at.block; bucket = at.bucket; node = flow.node }
+
 abbrev pub placed : (blocks : ℕ) → Flow → Placed
-placed blocks flow = record { block = (place blocks flow.key).block; bucket = (place blocks flow.key).bucket; entry = entry_of flow }
+placed blocks flow = placed_at (place blocks flow.key) flow
+
+-- the place of the flow's key
+abbrev pub place_of : (blocks : ℕ) → Flow → Place
+place_of blocks flow = place blocks flow.key
 
 -- by what the flows are put in order
 abbrev pub rank : Placed → ℕ × ℕ × ℕ
-rank one = (one.block, one.bucket, number one.entry.key)
+rank one = (one.block, one.bucket, number one.key)
 
 -- the one stands no later than the other: by the block, then by the bucket, then by the key's number
 abbrev pub IsNoLater : Placed → Placed → Type 0
-IsNoLater a b = (a.block < b.block) ⊎ ((a.block ≡ b.block) × ((a.bucket < b.bucket) ⊎ ((a.bucket ≡ b.bucket) × (number a.entry.key ≤ number b.entry.key))))
+IsNoLater a b = (a.block < b.block) ⊎ ((a.block ≡ b.block) × ((a.bucket < b.bucket) ⊎ ((a.bucket ≡ b.bucket) × (number a.key ≤ number b.key))))
 
 -- each stands no later than the next
 abbrev pub AreInOrder : List Placed → Type 0
@@ -32,8 +40,24 @@ pub record ArePlaced (blocks : ℕ) (flows : List Flow) (all : List Placed) : Ty
   pub each : IsPermutation (map (placed blocks) flows) all
   pub in_order : AreInOrder all
 
+-- whether the block is one of the run's
+abbrev pub has_block : Run → (block : ℕ) → Bool
+has_block run block = nat_le run.first block && nat_lt block (run.first + run.count)
+
+abbrev pub is_in_run : Run → Placed → Bool
+is_in_run run one = has_block run one.block
+
+-- the flows of a run's blocks where they stand, as they came
+unfoldable pub placed_by : (blocks : ℕ) → Run → List Flow → List Placed
+placed_by blocks run flows = filter (is_in_run run) (map (placed blocks) flows)
+
+-- the flows of a run's blocks where they stand, in order
+pub record ArePlacedBy (blocks : ℕ) (run : Run) (flows : List Flow) (all : List Placed) : Type 0 where
+  pub each : IsPermutation (placed_by blocks run flows) all
+  pub in_order : AreInOrder all
+
 abbrev pub placed_key : Placed → FlowKey
-placed_key one = one.entry.key
+placed_key one = one.key
 
 abbrev pub is_block : (block : ℕ) → Placed → Bool
 is_block block one = one.block == block
@@ -56,8 +80,9 @@ groups_of choices = map (group_of choices) (range_with_len 0 bucket_count)
 abbrev pub is_group : (groups : List ℕ) → (group : ℕ) → Placed → Bool
 is_group groups group one = slice_index groups one.bucket == group
 
+-- the flow as an entry of its group
 abbrev pub entry_in : Placed → Entry
-entry_in one = one.entry
+entry_in one = record { pair = pair one.key; key = one.key; node = one.node }
 
 -- the entries of one group of a block, in their order
 unfoldable pub gathered : (groups : List ℕ) → (group : ℕ) → List Placed → List Entry

@@ -1,5 +1,6 @@
 ghost use Rattle.std.specs.Prelude.{◌≡◌, ◌≤◌, IfOk};
 ghost use Rattle.setsep_build.specs.Cut.{IsCut};
+ghost use Rattle.setsep_build.specs.Placing.{has_block};
 ghost use Rattle.setsep_build.specs.Workers.{worthy_runs};
 
 use block_layout::GROUPS;
@@ -12,6 +13,15 @@ pub struct Run {
     pub first: u16,
     /// How many blocks there are.
     pub count: u16,
+}
+
+impl Run {
+    /// Whether the block is one of the run's.
+    pub fn has(self, block: u16) -> bool
+        ensures { result ≡ has_block self block }
+    {
+        self.first <= block && u32::from(block) < u32::from(self.first) + u32::from(self.count)
+    }
 }
 
 /// How much work makes it worth to start a worker: so many searches of a group or of a flow's place in one. They take some

@@ -62,7 +62,7 @@ impl Groups {
         self.clear();
         'placed: for one in placed {
             let group = &mut self.groups[of_bucket[one.bucket as usize] as usize];
-            group.entries.push(one.entry)?;
+            group.entries.push(one.entry())?;
         }
         Ok(())
     }

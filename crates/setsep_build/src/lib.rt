@@ -1,8 +1,8 @@
 //! The keyless table of a cluster's flows: an image for each block, or the first block that is past a limit.
 //!
-//! A contract sees what the build is by `specs/Build.antt` of `group_search`. The flows are hashed and put in order by
-//! their blocks. The blocks are cut into runs of neighbours, which are computed beside one another: each block is laid
-//! out, its entries are gathered by group in one pass, and each group gets its canonical record. Proved: the images and
+//! A contract sees what the build is by `specs/Build.antt` of `group_search`. The flows are hashed. The blocks are cut into
+//! runs of neighbours, which are computed beside one another: a run's flows are put in order by their blocks, each block is
+//! laid out, its entries are gathered by group in one pass, and each group gets its canonical record. Proved: the images and
 //! the refusals, exactly; only `OutOfMemory` may come at any time. Only tested: that memory suffices.
 #![tactic(auto)]
 

@@ -1,12 +1,32 @@
+ghost use Rattle.std.specs.Prelude.{◌≡◌};
+ghost use Rattle.setsep_build.specs.Placing.{entry_in};
+
+use flow_types::FlowKey;
 use group_search::Entry;
+use hash_family::pair;
 
 /// A flow where it stands in the table.
 #[derive(Clone, Copy, Debug, PartialEq, Eq)]
 pub struct Placed {
-    /// The block of the flow's key.
+    /// The flow's key.
+    pub key: FlowKey,
+    /// The block of the key.
     pub block: u16,
-    /// The bucket of the flow's key.
+    /// The bucket of the key.
     pub bucket: u8,
-    /// The flow as an entry of its group.
-    pub entry: Entry,
+    /// The flow's handler.
+    pub node: u8,
+}
+
+impl Placed {
+    /// The flow as an entry of its group. The key is hashed here.
+    pub fn entry(&self) -> Entry
+        ensures { result ≡ entry_in self.now }
+    {
+        Entry {
+            pair: pair(self.key),
+            key: self.key,
+            node: self.node,
+        }
+    }
 }

@@ -2,6 +2,7 @@ use Rattle.std.proofs.Common.{◌≡◌, ◌∙◌, ◌<◌, ◌++◌, ◌∷◌
 use Rattle.std.proofs.lemmas.List.{get_or_default, length-set}
 use Rattle.group_search.specs.declared.entry.Entry.{Entry}
 use Rattle.setsep_build.specs.declared.placed.Placed.{Placed}
+use Rattle.setsep_build.specs.Placing.{entry_in}
 use Rattle.setsep_build.proofs.MoreGathered.{nobody, gathered_none, known_below, one_gathered}
 use Rattle.setsep_build.proofs.groups.Groups.gather.Goals as goal
 
@@ -20,7 +21,8 @@ placed-preserved c =
     let at : ℕ = get_or c.args.of_bucket.now one.bucket 0 in
     let in_range : at < length found = omega (arith, known_below c.args.of_bucket.now one.bucket c.requires, c.placed.invariant.count) in
     let read : c.group.inside.entries.items ≡ get_or found at [] = c.group.view_is ∙ c.index_mut-group.ensures.value ∙ get_or_default found at _ [] in_range in
-    let whole : c.push.new.self.items ≡ get_or found at [] ++ one.entry ∷ [] = c.in_ok-push.ensures.items ∙ ap (λ (all : List Entry). all ++ one.entry ∷ []) read in
+    let whole : c.push.new.self.items ≡ get_or found at [] ++ entry_in one ∷ [] = c.in_ok-push.ensures.items ∙ ap (λ (all : List Entry). all ++ c.entry.result ∷ []) read
+    ∙ ap (λ (entry : Entry). get_or found at [] ++ entry ∷ []) c.entry.ensures in
     record {
       count = omega (arith, length-set found at c.push.new.self.items, c.placed.invariant.count);
       each = λ group low.
