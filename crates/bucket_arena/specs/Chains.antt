@@ -59,12 +59,6 @@ module _ {X : Type 0} where
     pub once : (number : ℕ) → occurrences number (numbers (cell_at cells) chain) ≤ 1
     pub marked : IsMarked (numbers (cell_at cells) chain) chain
 
-  -- so many cells from this one on are left to go over: the first `near` and the one after them are neighbours
-  pub record IsLeft (cells : List (Option (Cell X))) (next near far : ℕ) : Type 0 where
-    pub written : AllWritten cells (numbers_from (cell_at cells) (near + far) next)
-    pub runs : (place : ℕ) → place ≤ near → place < near + far → get_or (numbers_from (cell_at cells) (near + far) next) place 0 ≡ next + place
-    pub few : length cells < 4294967295
-
   -- the next free cell: the first of the free chain, or where that is empty the first cell that was never written
   pub record IsNextFree (cell : ℕ → Option (Cell X)) (free left : Chain) (made now_made number : ℕ) : Type 0 where
     pub fresh : free.len ≡ 0 → (number ≡ made) × (now_made ≡ made + 1) × (left ≡ free)

@@ -2,9 +2,7 @@
 ghost use Rattle.std.specs.Prelude.{◌≡◌, ℕ, ◌+◌, ◌<◌, ◌≤◌, [], ◌∷◌, ◌++◌, length, get_or, replicate, remove, slice_get, slice_set, IsOk, OnOk, OnErr, None};
 ghost use Rattle.bucket_arena.specs.Arena.{bucket_of, item_count, HasGrown};
 
-use crate::chain::{
-    Cell, Chain, append, near_cells, next_free, number_at, release, replace, unlink,
-};
+use crate::chain::{Cell, Chain, append, next_free, number_at, release, replace, unlink};
 use crate::items::Items;
 use crate::row::Row;
 use out_of_memory::OutOfMemory;
@@ -187,17 +185,15 @@ impl<T: Copy> Arena<T> {
         self.row.read(number).item
     }
 
-    /// The items of the bucket, in their order, in one walk.
+    /// The items of the bucket, in their order, in one walk of its chain.
     pub fn iter(&self, bucket: u8) -> Items<'_, T>
         ensures { result ≡ bucket_of self.now bucket }
     {
         let chain = self.chains[bucket as usize];
-        let near = near_cells(chain);
         Items {
             row: &self.row,
             next: chain.first,
-            near,
-            far: chain.len - near,
+            left: chain.len,
         }
     }
 

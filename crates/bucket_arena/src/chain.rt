@@ -1,5 +1,5 @@
 //! Chains of cells: each cell has the number of the next.
-ghost use Rattle.std.specs.Prelude.{◌≡◌, ℕ, ◌+◌, ◌-◌, ◌<◌, ◌≤◌, ◌≢◌, ◌⊎◌, ◌^◌, [], ◌∷◌, ◌++◌, length, Some, None, get_or, slice_set, remove, slice_get};
+ghost use Rattle.std.specs.Prelude.{◌≡◌, ℕ, ◌+◌, ◌<◌, ◌≤◌, ◌≢◌, ◌⊎◌, ◌^◌, [], ◌∷◌, ◌++◌, length, Some, None, get_or, slice_set, remove, slice_get};
 ghost use Rattle.bucket_arena.specs.Row.{IsWritten};
 ghost use Rattle.bucket_arena.specs.Chains.{cell_at, numbers, items, occurrences, IsWhole, IsNextFree};
 
@@ -44,21 +44,6 @@ pub(crate) fn number_at<T: Copy>(row: &Row<Cell<T>>, chain: Chain, place: u32) -
         number = row.read(number).next;
     }
     number
-}
-
-/// How many cells from the first on need no look at their links: those that a neighbour follows, and the last where all are
-/// neighbours.
-pub(crate) fn near_cells(chain: Chain) -> u32
-    requires { chain.run ≤ chain.len - 1 }
-    ensures within { result ≤ chain.len }
-    ensures most { chain.run ≤ result }
-    ensures near { (place : ℕ) → place ≤ result → place < chain.len → place ≤ chain.run }
-{
-    if chain.len - chain.run <= 1 {
-        chain.len
-    } else {
-        chain.run
-    }
 }
 
 /// The number of a cell that no bucket uses: the first of the free chain, which it leaves, or the first cell that was
