@@ -53,6 +53,18 @@ pub fn figures(rt: &(impl Print + AllocGlobal + Clock)) -> io::Result<()> {
         let start = Instant::now(rt)?;
         let sum = changes_of_lists(lists.as_mut_slice());
         tell(rt, "lists_take_and_push", TIMES, start.elapsed(rt)?, sum)?;
+        let start = Instant::now(rt)?;
+        let sum = looks(&arena);
+        tell(rt, "arena_at_after", TIMES, start.elapsed(rt)?, sum)?;
+        let start = Instant::now(rt)?;
+        let sum = looks_in_lists(lists.as_slice());
+        tell(rt, "lists_at_after", TIMES, start.elapsed(rt)?, sum)?;
+        let start = Instant::now(rt)?;
+        let sum = gathered(&arena);
+        tell(rt, "arena_gather_16_after", TIMES, start.elapsed(rt)?, sum)?;
+        let start = Instant::now(rt)?;
+        let sum = gathered_of_lists(lists.as_slice());
+        tell(rt, "lists_gather_16_after", TIMES, start.elapsed(rt)?, sum)?;
     }
     Ok(())
 }
@@ -69,15 +81,18 @@ fn draw(number: u32) -> u32 {
     mixed ^ (mixed >> 16)
 }
 
-/// A block's flows in an arena, or `Err` for want of memory.
+/// A block's flows in an arena, as an owner opens it: room for what is expected first, the flows as they come, and each
+/// bucket laid side by side at the end. `Err` for want of memory.
 fn filled(alloc: Global) -> Result<Arena<Item>, OutOfMemory>
     ensures { IfOk result (λ arena. item_count arena ≡ 1024) }
 {
     let mut arena = Arena::new(alloc);
+    arena.reserve(FLOWS + FLOWS / 8)?;
     'pushed: for number in 0..FLOWS {
         arena.reserve(1)?;
         arena.push((draw(number) % 256) as u8, [number; 6]);
     }
+    arena.settle()?;
     Ok(arena)
 }
 

@@ -1,5 +1,5 @@
 -- The laws of an arena after a move to a larger piece, a push, a write and a take.
-use Rattle.std.specs.Prelude.{◌≡◌, ◌≢◌, ◌⊎◌, ℕ, zero, suc, ◌+◌, ◌-◌, ◌<◌, ◌≤◌, List, [], ◌∷◌, ◌++◌, length, map, replicate, get_or, set, remove, Option, None, refl}
+use Rattle.std.specs.Prelude.{◌≡◌, ◌≢◌, ◌⊎◌, ℕ, zero, suc, ◌+◌, ◌-◌, ◌<◌, ◌≤◌, List, [], ◌∷◌, ◌++◌, length, replicate, get_or, set, remove, Option, None, refl}
 use Rattle.std.proofs.Common.{sym, ◌∙◌, ap, subst, inl, inr, arith, length-set}
 use Rattle.std.proofs.lemmas.List.{length-replicate, set-get_or}
 use Rattle.std.specs.List.{sum_by}
@@ -8,11 +8,11 @@ use Rattle.bucket_arena.specs.declared.chain.Cell.{Cell}
 use Rattle.bucket_arena.specs.declared.chain.Chain.{Chain}
 use Rattle.bucket_arena.specs.Row.{IsWritten}
 use Rattle.bucket_arena.specs.Arena.{lists_of}
-use Rattle.bucket_arena.specs.Chains.{occurrences, cell_at, numbers, numbers_from, item_and, items_in, items, IsWhole, IsEnd, IsNextFree, standings, AreChains, no_cells}
+use Rattle.bucket_arena.specs.Chains.{occurrences, cell_at, numbers, numbers_from, item_and, items_in, items, IsMarked, IsWhole, IsNextFree, standings, AreChains, no_cells}
 use Rattle.bucket_arena.proofs.Counts.{same, same_or_not, same_self, occurrences-append, occurrences-remove}
 use Rattle.bucket_arena.proofs.Links.{same_numbers, same_items}
 use Rattle.bucket_arena.proofs.Appending.{long, at_place}
-use Rattle.bucket_arena.proofs.Standing.{items_counted, in_chain, nth, at_most, below_made, part, whole, apart, apart_free, free_apart, numbers_else, lists_now, sums_now, ends_now}
+use Rattle.bucket_arena.proofs.Standing.{items_counted, in_chain, nth, at_most, below_made, part, whole, apart, apart_free, free_apart, numbers_else, lists_now, sums_now, marked_now}
 
 none_long : (n : ℕ) → sum_by (λ (c : Chain). c.len) (replicate n no_cells) ≡ 0
 none_long zero = refl
@@ -24,58 +24,37 @@ none_first zero (suc b) = refl
 none_first (suc n) zero = refl
 none_first (suc n) (suc b) = none_first n b
 
--- an arena of empty chains
-module _ (X : Type 0) where
-  none_standing : (n m : ℕ) → sum_by (λ c. occurrences m (numbers {X = X} (cell_at []) c)) (replicate n no_cells) ≡ 0
-  none_standing zero m = refl
-  none_standing (suc n) m = omega (arith, none_standing n m, sum_by-cons (λ c. occurrences m (numbers {X = X} (cell_at []) c)) no_cells (replicate n no_cells))
+none_marked : IsMarked [] no_cells
+none_marked = record {
+  ends = λ some. refl;
+  runs = λ place l within. absurd (omega arith);
+  within = omega arith;
+}
 
-  pub empty_lists : (n : ℕ) → lists_of {X = X} [] (replicate n no_cells) ≡ replicate n []
+-- empty chains over bare cells
+module _ {X : Type 0} (cells : List (Option (Cell X))) where
+  none_standing : (n m : ℕ) → sum_by (λ c. occurrences m (numbers (cell_at cells) c)) (replicate n no_cells) ≡ 0
+  none_standing zero m = refl
+  none_standing (suc n) m = omega (arith, none_standing n m, sum_by-cons (λ c. occurrences m (numbers (cell_at cells) c)) no_cells (replicate n no_cells))
+
+  pub empty_lists : (n : ℕ) → lists_of cells (replicate n no_cells) ≡ replicate n []
   empty_lists zero = refl
   empty_lists (suc n) = ap (λ l. [] ∷ l) (empty_lists n)
 
-  nothing_at : (m : ℕ) → get_or {A = Option (Cell X)} [] m None ≡ None
-  nothing_at zero = refl
-  nothing_at (suc m) = refl
-
-  no_place : 0 < 0 → get_or {A = ℕ} [] 0 0 ≡ 0
-  no_place some = refl
-
-  pub empty_chains : (n : ℕ) → n ≡ 256 → AreChains {X = X} [] (replicate n no_cells) no_cells 0
-  empty_chains n e = record {
+  pub empty_chains : ((m : ℕ) → get_or cells m None ≡ None) → length cells < 4294967295 → (n : ℕ) → n ≡ 256 → AreChains cells (replicate n no_cells) no_cells 0
+  empty_chains bare few n e = record {
     each_once = λ m l. absurd (omega arith);
     no_other = λ m l. omega (arith, none_standing n m);
     lengths = omega (arith, none_long n);
     written = λ m l. absurd (omega arith);
-    bare = λ m l. nothing_at m;
-    ends = λ b l. subst (IsEnd {X = X} (cell_at [])) (sym (none_first n b)) (λ some. no_place some);
+    bare = λ m l. bare m;
+    marked = λ b l. subst (λ c. IsMarked (numbers (cell_at cells) c) c) (sym (none_first n b)) none_marked;
     in_room = omega arith;
-    few = omega arith;
+    few = few;
     chain_each = length-replicate n no_cells ∙ e;
   }
 
 module _ {X : Type 0} (cells now : List (Option (Cell X))) (chains : List Chain) (free : Chain) (made : ℕ) (sound : AreChains cells chains free made) where
-  -- a larger row that holds what the old one held
-  module _ (stand : (m : ℕ) → get_or now m None ≡ get_or cells m None) where
-    alike : cell_at now ≡ cell_at cells
-    alike = λ i m. stand m i
-
-    pub lists_stay : lists_of now chains ≡ lists_of cells chains
-    lists_stay = ap (λ (f : ℕ → Option (Cell X)). map (items f) chains) alike
-
-    pub moved : made ≤ length now → length now < 4294967295 → AreChains now chains free made
-    moved room few = record {
-      each_once = λ m l. ap (λ (f : ℕ → Option (Cell X)). standings f chains free m) alike ∙ sound.each_once m l;
-      no_other = λ m l. ap (λ (f : ℕ → Option (Cell X)). standings f chains free m) alike ∙ sound.no_other m l;
-      lengths = sound.lengths;
-      written = λ m l. let w = sound.written m l in (w.0, stand m ∙ w.1);
-      bare = λ m l. stand m ∙ sound.bare m l;
-      ends = λ b l. subst (λ (f : ℕ → Option (Cell X)). IsEnd f (get_or chains b no_cells)) (sym alike) (sound.ends b l);
-      in_room = room;
-      few = few;
-      chain_each = sound.chain_each;
-    }
-
   -- an item written over another in the chain of the bucket b
   module _ (b : ℕ) (lb : b < length chains)
       (numbers_stay : numbers (cell_at now) (get_or chains b no_cells) ≡ numbers (cell_at cells) (get_or chains b no_cells))
@@ -105,9 +84,9 @@ module _ {X : Type 0} (cells now : List (Option (Cell X))) (chains : List Chain)
       lengths = sound.lengths;
       written = λ m l. kept m (sound.written m l);
       bare = λ m l. others m (let none = sound.no_other m l in omega (arith, none, part cells chains free made sound m b lb)) ∙ sound.bare m l;
-      ends = λ i li. elim (same_or_not i b) [
-        | inl t ↦ subst (λ k. IsEnd (cell_at now) (get_or chains k no_cells)) (sym t.0) (λ some. ap (λ ns. get_or ns ((get_or chains b no_cells).len - 1) 0) numbers_stay ∙ sound.ends b lb some)
-        | inr f ↦ (λ some. ap (λ ns. get_or ns ((get_or chains i no_cells).len - 1) 0) (numbers_else cells chains free made sound now b made lb agree fresh_out i li f.0) ∙ sound.ends i li some)
+      marked = λ i li. elim (same_or_not i b) [
+        | inl t ↦ subst (λ k. let c = get_or chains k no_cells in IsMarked (numbers (cell_at now) c) c) (sym t.0) (subst (λ ns. IsMarked ns (get_or chains b no_cells)) (sym numbers_stay) (sound.marked b lb))
+        | inr f ↦ subst (λ ns. IsMarked ns (get_or chains i no_cells)) (sym (numbers_else cells chains free made sound now b made lb agree fresh_out i li f.0)) (sound.marked i li)
       ];
       in_room = omega (arith, room, sound.in_room);
       few = omega (arith, room, sound.few);
@@ -224,7 +203,7 @@ module _ {X : Type 0} (cells now : List (Option (Cell X))) (chains : List Chain)
         written = λ m l. elim (below_now m l) [ inl lower ↦ kept m (sound.written m lower) | inr is ↦ subst (IsWritten now) (sym is) here_written ];
         bare = λ m l. (let lower : made ≤ m = omega (arith, l, made_fits) in
             others m (λ e. omega (arith, l, e, number_made)) (let none = sound.no_other m lower in omega (arith, none, part cells chains free made sound m b lb)) ∙ sound.bare m lower);
-        ends = ends_now cells chains free made sound now b number lb others out grown whole_now.ends;
+        marked = marked_now cells chains free made sound now b number lb others out grown whole_now.marked;
         in_room = (let less = spare_less in elim which [
           | inl z ↦ (let up = (next.fresh z).1 in omega (arith, up, room, spare, z, sound.in_room))
           | inr s ↦ (let up = (next.again s).1 in omega (arith, up, room, sound.in_room))
@@ -303,7 +282,7 @@ module _ {X : Type 0} (cells now : List (Option (Cell X))) (chains : List Chain)
         written = λ m l. kept m (kept_mid m (sound.written m l));
         bare = λ m l. (let none = sound.no_other m l in
             stands_else m (λ e. let in_made : number < made = below_made cells chains free made sound number (omega (arith, number_in, part cells chains free made sound number b lb)) in omega (arith, e, in_made, l)) (omega (arith, none, part cells chains free made sound m b lb)) ∙ sound.bare m l);
-        ends = ends_now cells chains free made sound now b number lb stands_else number_alone shrunk (λ some. ap (λ ns. get_or ns (shrunk.len - 1) 0) shrunk_stays ∙ whole_mid.ends some);
+        marked = marked_now cells chains free made sound now b number lb stands_else number_alone shrunk (subst (λ ns. IsMarked ns shrunk) (sym shrunk_stays) whole_mid.marked);
         in_room = omega (arith, room, room_mid, sound.in_room);
         few = omega (arith, room, room_mid, sound.few);
         chain_each = length-set chains b shrunk ∙ sound.chain_each;

@@ -12,6 +12,6 @@ pub mod Unlinking
 pub mod Writing
 pub mod Standing
 pub mod Changes
-pub mod Growing
 pub mod Heads
 pub mod Crossing
+pub mod Laying

@@ -1,14 +1,14 @@
 -- What the laws of an arena say of one chain and of two.
-use Rattle.std.specs.Prelude.{◌≡◌, ◌≢◌, ◌⊎◌, ℕ, zero, suc, ◌+◌, ◌-◌, ◌<◌, ◌≤◌, List, [], ◌∷◌, length, map, get_or, set, Option, refl}
+use Rattle.std.specs.Prelude.{◌≡◌, ◌≢◌, ◌⊎◌, ℕ, zero, suc, ◌+◌, ◌<◌, ◌≤◌, List, [], ◌∷◌, length, map, get_or, set, Option, refl}
 use Rattle.std.proofs.Common.{sym, ◌∙◌, ap, subst, inl, inr, arith, get_or-set_other, get_or-set_same, length-set}
 use Rattle.std.specs.List.{sum_by}
-use Rattle.std.proofs.lemmas.List.{get_or-map}
+use Rattle.std.proofs.lemmas.List.{get_or-map, length-map}
 use Rattle.std.proofs.lemmas.List.Sums.{get_or-le-sum_by, sum_by-set, sum_by-cons}
 use Rattle.bucket_arena.specs.declared.chain.Cell.{Cell}
 use Rattle.bucket_arena.specs.declared.chain.Chain.{Chain}
 use Rattle.bucket_arena.specs.Row.{IsWritten}
 use Rattle.bucket_arena.specs.Arena.{lists_of}
-use Rattle.bucket_arena.specs.Chains.{occurrences, cell_at, numbers, item_and, items_in, items, IsWhole, IsEnd, standings, AreChains, no_cells}
+use Rattle.bucket_arena.specs.Chains.{occurrences, cell_at, numbers, item_and, items_in, items, IsMarked, IsWhole, standings, AreChains, no_cells}
 use Rattle.bucket_arena.proofs.Counts.{same_or_not, sum_of_one, map_of_one, stands}
 use Rattle.bucket_arena.proofs.Links.{followed, length-numbers, length-items, same_numbers, same_items}
 
@@ -41,7 +41,7 @@ module _ {X : Type 0} (cells : List (Option (Cell X))) (chains : List Chain) (fr
   whole b l = record {
     written = λ m some. sound.written m (below_made m (omega (arith, part m b l)));
     once = λ m. omega (arith, part m b l, at_most m);
-    ends = sound.ends b l;
+    marked = sound.marked b l;
   }
 
   -- no cell stands in two buckets' chains
@@ -75,6 +75,9 @@ module _ {X : Type 0} (cells : List (Option (Cell X))) (chains : List Chain) (fr
       let head : get_or (numbers cell free) 0 0 ≡ free.first = followed cell free.len free.first 0 some in
       let stood : 0 < in_chain free.first free = subst (λ k. 0 < in_chain k free) head (stands (numbers cell free) 0 l) in
       sound.written free.first (below_made free.first (omega (arith, stood)))
+
+  pub list_each : length (lists_of cells chains) ≡ 256
+  list_each = length-map chains (items cell) ∙ sound.chain_each
 
   -- the list of a bucket
   pub list_at : (b : ℕ) → b < length chains → get_or (lists_of cells chains) b [] ≡ items cell (nth b)
@@ -112,9 +115,9 @@ module _ {X : Type 0} (cells : List (Option (Cell X))) (chains : List Chain) (fr
     pub sums_now : (chain : Chain) (m : ℕ) → sum_by (λ c. occurrences m (numbers (cell_at now) c)) (set chains b chain) + in_chain m (nth b) ≡ sum_by (in_chain m) chains + occurrences m (numbers (cell_at now) chain)
     sums_now chain m = sum_of_one (in_chain m) (λ c. occurrences m (numbers (cell_at now) c)) chains b chain no_cells lb (λ i li ne. ap (occurrences m) (numbers_else i li ne))
 
-    pub ends_now : (chain : Chain) → IsEnd (cell_at now) chain → (i : ℕ) → i < length (set chains b chain) → IsEnd (cell_at now) (get_or (set chains b chain) i no_cells)
-    ends_now chain end i li = elim (same_or_not i b) [
-      | inl t ↦ subst (IsEnd (cell_at now)) (sym (ap (λ k. get_or (set chains b chain) k no_cells) t.0 ∙ get_or-set_same chains b chain no_cells lb)) end
+    pub marked_now : (chain : Chain) → IsMarked (numbers (cell_at now) chain) chain → (i : ℕ) → i < length (set chains b chain) → let c = get_or (set chains b chain) i no_cells in IsMarked (numbers (cell_at now) c) c
+    marked_now chain marked i li = elim (same_or_not i b) [
+      | inl t ↦ subst (λ c. IsMarked (numbers (cell_at now) c) c) (sym (ap (λ k. get_or (set chains b chain) k no_cells) t.0 ∙ get_or-set_same chains b chain no_cells lb)) marked
       | inr f ↦ let li' : i < length chains = omega (arith, length-set chains b chain) in
-          subst (IsEnd (cell_at now)) (sym (get_or-set_other chains b i chain no_cells f.0)) (λ some. ap (λ ns. get_or ns ((nth i).len - 1) 0) (numbers_else i li' f.0) ∙ sound.ends i li' some)
+          subst (λ c. IsMarked (numbers (cell_at now) c) c) (sym (get_or-set_other chains b i chain no_cells f.0)) (subst (λ ns. IsMarked ns (nth i)) (sym (numbers_else i li' f.0)) (sound.marked i li'))
     ]

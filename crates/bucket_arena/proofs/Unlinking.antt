@@ -1,20 +1,20 @@
 -- A cell taken out of a chain.
-use Rattle.std.specs.Prelude.{◌≡◌, ◌≢◌, ℕ, suc, ◌+◌, ◌-◌, ◌<◌, ◌≤◌, List, [], ◌∷◌, ◌++◌, length, get_or, set, remove, Option, Some, None}
+use Rattle.std.specs.Prelude.{◌≡◌, ◌≢◌, ℕ, suc, ◌+◌, ◌-◌, ◌<◌, ◌≤◌, List, [], ◌∷◌, ◌++◌, length, get_or, set, remove, Option, Some, None, refl}
 use Rattle.std.proofs.Common.{sym, ◌∙◌, ap, subst, inl, inr, arith}
 use Rattle.std.proofs.lemmas.List.Edits.{get_or-remove_below, get_or-remove_above}
 use Rattle.bucket_arena.specs.declared.chain.Cell.{Cell}
 use Rattle.bucket_arena.specs.declared.chain.Chain.{Chain}
 use Rattle.bucket_arena.specs.Row.{IsWritten}
-use Rattle.bucket_arena.specs.Chains.{occurrences, cell_at, next_of, numbers_from, numbers, item_and, items_in, items, IsWhole}
+use Rattle.bucket_arena.specs.Chains.{occurrences, cell_at, next_of, numbers_from, numbers, item_and, items_in, items, IsMarked, IsWhole}
 use Rattle.bucket_arena.proofs.Counts.{same, same_or_not, same_self, occurrences-append, occurrences-remove, remove_seam}
-use Rattle.bucket_arena.proofs.Links.{after, after_is, follow, length-numbers, followed, cut, relinked, same_numbers, same_items, items-append, length-items}
+use Rattle.bucket_arena.proofs.Links.{after, after_is, follow, length-numbers, followed, next_number, cut, relinked, same_numbers, same_items, items-append, length-items}
 use Rattle.bucket_arena.proofs.Written.{within, wrote_there, wrote_else, still_written}
 use Rattle.bucket_arena.proofs.Appending.{long}
 
 module _ {X : Type 0} (cells now : List (Option (Cell X))) (chain shrunk : Chain) (place : ℕ) (whole : IsWhole cells chain) (l : place < chain.len)
     (unlinked : numbers (cell_at now) shrunk ≡ remove (numbers (cell_at cells) chain) place) (counted : shrunk.len + 1 ≡ chain.len)
     (kept : (m : ℕ) → IsWritten cells m → IsWritten now m)
-    (ended : 0 < shrunk.len → get_or (remove (numbers (cell_at cells) chain) place) (shrunk.len - 1) 0 ≡ shrunk.last) where
+    (marked : IsMarked (remove (numbers (cell_at cells) chain) place) shrunk) where
   fewer : (m : ℕ) → occurrences m (numbers (cell_at now) shrunk) ≤ occurrences m (numbers (cell_at cells) chain)
   fewer m = let l' : place < length (numbers (cell_at cells) chain) = omega (arith, long cells chain) in
       let e = ap (occurrences m) unlinked in omega (arith, e, occurrences-remove m (numbers (cell_at cells) chain) place l')
@@ -23,8 +23,46 @@ module _ {X : Type 0} (cells now : List (Option (Cell X))) (chain shrunk : Chain
   whole_shrunk = record {
     written = λ m some. kept m (whole.written m (omega (arith, fewer m)));
     once = λ m. omega (arith, fewer m, whole.once m);
-    ends = λ some. ap (λ ns. get_or ns (shrunk.len - 1) 0) unlinked ∙ ended some;
+    marked = subst (λ ns. IsMarked ns shrunk) (sym unlinked) marked;
   }
+
+module _ {X : Type 0} (cells : List (Option (Cell X))) (chain : Chain) (place : ℕ) (whole : IsWhole cells chain) (l : place < chain.len) where
+  -- where the cell was not the last, the last stays
+  pub ends_same : place < chain.len - 1 → get_or (remove (numbers (cell_at cells) chain) place) (chain.len - 1 - 1) 0 ≡ chain.last
+  ends_same l' =
+      let k : chain.len - 1 - 1 + 1 ≡ chain.len - 1 = omega arith in
+      get_or-remove_above (numbers (cell_at cells) chain) place 0 (chain.len - 1 - 1) (omega arith) (omega (arith, long cells chain)) ∙ ap (λ j. get_or (numbers (cell_at cells) chain) j 0) k ∙ whole.marked.ends (omega arith)
+
+  -- where the first cell goes, the chain begins at the next
+  pub first_out : place ≡ 0 → (a : Cell X) → get_or cells chain.first None ≡ Some a → (run : ℕ) → run ≡ chain.run - 1 → IsWhole cells (record { first = a.next; last = chain.last; len = chain.len - 1; run = run })
+  first_out zeroth a read run less =
+      let shrunk : Chain = record { first = a.next; last = chain.last; len = chain.len - 1; run = run } in
+      let ns = numbers (cell_at cells) chain in
+      let counted : chain.len - 1 + 1 ≡ chain.len = omega arith in
+      let len : chain.len ≡ suc (chain.len - 1) = omega arith in
+      let out : numbers (cell_at cells) shrunk ≡ remove ns place
+      = sym (ap (λ c. numbers_from (cell_at cells) (chain.len - 1) (next_of c)) read) ∙ sym (λ i. remove (numbers_from (cell_at cells) (len i) chain.first) (zeroth i)) in
+      let second : 0 < chain.len - 1 → get_or ns 1 0 ≡ a.next
+      = λ more. next_number (cell_at cells) chain.len chain.first 0 (omega (arith, more)) ∙ ap (λ k. next_of (cell_at cells k)) (followed (cell_at cells) chain.len chain.first 0 (omega arith)) ∙ ap next_of read in
+      let up : (k : ℕ) → get_or (remove ns place) k 0 ≡ get_or ns (k + 1) 0 = λ k. get_or-remove_above ns place 0 k (omega (arith, zeroth)) (omega (arith, l, long cells chain)) in
+      let marked : IsMarked (remove ns place) shrunk = record {
+        ends = λ some. ends_same (omega (arith, some, zeroth));
+        runs = λ k in_run l'. elim (same_or_not k 0) [
+          | inl t ↦ let at = t.0 in let e : k + 1 ≡ 1 = omega (arith, at) in let sum : a.next ≡ a.next + k = omega (arith, at) in up k ∙ ap (λ j. get_or ns j 0) e ∙ second (omega (arith, l')) ∙ sum
+          | inr f ↦ let ne = f.0 in let here = whole.marked.runs (k + 1) (omega (arith, in_run, less, ne)) (omega (arith, l')) in let one = whole.marked.runs 1 (omega (arith, in_run, less, ne)) (omega (arith, l')) in
+              let is = second (omega (arith, l')) in let sum : chain.first + (k + 1) ≡ a.next + k = omega (arith, one, is) in up k ∙ here ∙ sum
+        ];
+        within = omega (arith, less, whole.marked.within);
+      } in
+      whole_shrunk cells cells chain shrunk place whole l out counted (λ m w. w) marked
+
+module _ {X : Type 0} (cells : List (Option (Cell X))) (chain : Chain) (place before : ℕ) (link : Cell X) (l : place < chain.len) (some : 0 < place)
+    (is_before : before ≡ get_or (numbers (cell_at cells) chain) (place - 1) 0) (read : get_or cells before None ≡ Some link) where
+  -- a cell leads to the one at the next place
+  pub number_is : link.next ≡ get_or (numbers (cell_at cells) chain) place 0
+  number_is =
+      let e : suc (place - 1) ≡ place = omega arith in
+      sym (ap next_of read) ∙ ap (λ k. next_of (cell_at cells k)) is_before ∙ sym (next_number (cell_at cells) chain.len chain.first (place - 1) (omega arith)) ∙ ap (λ k. get_or (numbers (cell_at cells) chain) k 0) e
 
 module _ {X : Type 0} (cells now : List (Option (Cell X))) (chain : Chain) (place before number : ℕ) (a b : Cell X) (whole : IsWhole cells chain)
     (l : place < chain.len) (some : 0 < place) (is_before : before ≡ get_or (numbers (cell_at cells) chain) (place - 1) 0) (is_number : number ≡ get_or (numbers (cell_at cells) chain) place 0)
@@ -127,23 +165,24 @@ module _ {X : Type 0} (cells now : List (Option (Cell X))) (chain : Chain) (plac
   others m none = else_same m (λ e. let none' : occurrences before ns ≡ 0 = subst (λ k. occurrences k ns ≡ 0) e none in omega (arith, none', counts before, same_self before))
 
   -- where the cell was the last, the one before it ends the chain
-  pub ends_before : place ≡ chain.len - 1 → 0 < chain.len - 1 → get_or (remove ns place) (chain.len - 1 - 1) 0 ≡ before
-  ends_before e l' =
+  ends_before : place ≡ chain.len - 1 → get_or (remove ns place) (chain.len - 1 - 1) 0 ≡ before
+  ends_before e =
       let k : chain.len - 1 - 1 ≡ place - 1 = omega arith in
       get_or-remove_below ns place 0 (chain.len - 1 - 1) (omega arith) (omega (arith, long cells chain)) ∙ ap (λ j. get_or ns j 0) k ∙ sym is_before
 
-module _ {X : Type 0} (cells : List (Option (Cell X))) (chain : Chain) (place : ℕ) (whole : IsWhole cells chain) (l : place < chain.len) where
-  -- where the cell was not the last, the last stays
-  pub ends_same : place < chain.len - 1 → get_or (remove (numbers (cell_at cells) chain) place) (chain.len - 1 - 1) 0 ≡ chain.last
-  ends_same l' =
-      let k : chain.len - 1 - 1 + 1 ≡ chain.len - 1 = omega arith in
-      get_or-remove_above (numbers (cell_at cells) chain) place 0 (chain.len - 1 - 1) (omega arith) (omega (arith, long cells chain)) ∙ ap (λ j. get_or (numbers (cell_at cells) chain) j 0) k ∙ whole.ends (omega arith)
+  module _ (last run : ℕ) (of_the_last : place + 1 ≡ chain.len → last ≡ before) (of_another : place + 1 ≢ chain.len → last ≡ chain.last) (short : run ≤ place - 1) (shorter : run ≤ chain.run) where
+    abbrev shrunk : Chain
+    shrunk = record { first = chain.first; last = last; len = chain.len - 1; run = run }
 
-  -- where the first cell goes, the chain begins at the next
-  pub first_out : place ≡ 0 → (a : Cell X) → get_or cells chain.first None ≡ Some a → IsWhole cells (record { first = a.next; last = chain.last; len = chain.len - 1 })
-  first_out zeroth a read =
-      let counted : chain.len - 1 + 1 ≡ chain.len = omega arith in
-      let len : chain.len ≡ suc (chain.len - 1) = omega arith in
-      let out : numbers (cell_at cells) (record { first = a.next; last = chain.last; len = chain.len - 1 }) ≡ remove (numbers (cell_at cells) chain) place
-      = sym (ap (λ c. numbers_from (cell_at cells) (chain.len - 1) (next_of c)) read) ∙ sym (λ i. remove (numbers_from (cell_at cells) (len i) chain.first) (zeroth i)) in
-      whole_shrunk cells cells chain (record { first = a.next; last = chain.last; len = chain.len - 1 }) place whole l out counted (λ m w. w) (λ some. ends_same (omega arith))
+    marked_now : IsMarked (remove ns place) shrunk
+    marked_now = record {
+      ends = λ any. elim (same_or_not (place + 1) chain.len) [
+        | inl t ↦ let e = t.0 in ends_before (omega (arith, e)) ∙ sym (of_the_last e)
+        | inr f ↦ let ne = f.0 in ends_same cells chain place whole l (omega (arith, ne, l)) ∙ sym (of_another ne)
+      ];
+      runs = λ k in_run l'. get_or-remove_below ns place 0 k (omega (arith, in_run, short, some)) (omega (arith, l, long cells chain)) ∙ whole.marked.runs k (omega (arith, in_run, shorter)) (omega (arith, l'));
+      within = omega (arith, short, l);
+    }
+
+    pub whole_now : IsWhole now shrunk
+    whole_now = whole_shrunk cells now chain shrunk place whole l (unlinked shrunk refl refl) (omega (arith, l)) still marked_now

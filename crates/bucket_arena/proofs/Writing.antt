@@ -57,7 +57,7 @@ module _ {X : Type 0} (cells now : List (Option (Cell X))) (number : ℕ) (item 
 
   -- the cell leads to the chain, which it is not in
   pub before_chain : (free : Chain) → now ≡ set cells number (Some (record { item = item; next = free.first })) → occurrences number (numbers (cell_at cells) free) ≡ 0
-      → numbers (cell_at now) (record { first = number; last = free.last; len = free.len + 1 }) ≡ number ∷ numbers (cell_at cells) free
+      → numbers (cell_at now) (record { first = number; last = free.last; len = free.len + 1; run = 0 }) ≡ number ∷ numbers (cell_at cells) free
   before_chain free wrote apart =
       let new : Cell X = record { item = item; next = free.first } in
       let first_cell : cell_at now number ≡ Some new = wrote_there cells now number new wrote (within cells number old read) in

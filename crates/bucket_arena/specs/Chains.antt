@@ -10,6 +10,12 @@ abbrev pub occurrences : ℕ → List ℕ → ℕ
 occurrences number [] = 0
 occurrences number (n ∷ ns) = cond (n == number) 1 0 + occurrences number ns
 
+-- the last of these numbers is the one that the chain names, and so many after the first count on from it as the chain says
+pub record IsMarked (ns : List ℕ) (chain : Chain) : Type 0 where
+  pub ends : 0 < chain.len → get_or ns (chain.len - 1) 0 ≡ chain.last
+  pub runs : (place : ℕ) → place ≤ chain.run → place < chain.len → get_or ns place 0 ≡ chain.first + place
+  pub within : chain.run ≤ chain.len - 1
+
 module _ {X : Type 0} where
   -- what the cell of this number holds
   abbrev pub cell_at : List (Option (Cell X)) → ℕ → Option (Cell X)
@@ -47,15 +53,11 @@ module _ {X : Type 0} where
   abbrev pub AllWritten : List (Option (Cell X)) → List ℕ → Type 0
   AllWritten cells ns = (number : ℕ) → 0 < occurrences number ns → IsWritten cells number
 
-  -- the chain's last cell is the one that it names
-  abbrev pub IsEnd : (ℕ → Option (Cell X)) → Chain → Type 0
-  IsEnd cell chain = 0 < chain.len → get_or (numbers cell chain) (chain.len - 1) 0 ≡ chain.last
-
-  -- each cell of the chain was written, none stands in it twice, and its last cell is the one that it names
+  -- each cell of the chain was written, none stands in it twice, and its marks are right
   pub record IsWhole (cells : List (Option (Cell X))) (chain : Chain) : Type 0 where
     pub written : AllWritten cells (numbers (cell_at cells) chain)
     pub once : (number : ℕ) → occurrences number (numbers (cell_at cells) chain) ≤ 1
-    pub ends : IsEnd (cell_at cells) chain
+    pub marked : IsMarked (numbers (cell_at cells) chain) chain
 
   -- the next free cell: the first of the free chain, or where that is empty the first cell that was never written
   pub record IsNextFree (cell : ℕ → Option (Cell X)) (free left : Chain) (made now_made number : ℕ) : Type 0 where
@@ -64,7 +66,7 @@ module _ {X : Type 0} where
 
 -- a chain without cells
 abbrev pub no_cells : Chain
-no_cells = record { first = 0; last = 0; len = 0 }
+no_cells = record { first = 0; last = 0; len = 0; run = 0 }
 
 module _ {X : Type 0} where
   -- in how many places of the buckets' chains and the free chain the cell stands
@@ -79,7 +81,7 @@ module _ {X : Type 0} where
     pub lengths : sum_by (λ chain. chain.len) chains + free.len ≡ made
     pub written : (number : ℕ) → number < made → IsWritten cells number
     pub bare : (number : ℕ) → made ≤ number → get_or cells number None ≡ None
-    pub ends : (bucket : ℕ) → bucket < length chains → IsEnd (cell_at cells) (get_or chains bucket no_cells)
+    pub marked : (bucket : ℕ) → bucket < length chains → let chain = get_or chains bucket no_cells in IsMarked (numbers (cell_at cells) chain) chain
     pub in_room : made ≤ length cells
     pub few : length cells < 4294967295
     pub chain_each : length chains ≡ 256

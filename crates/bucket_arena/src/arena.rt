@@ -1,5 +1,5 @@
 //! The arena: 256 lists in one row of cells.
-ghost use Rattle.std.specs.Prelude.{◌≡◌, ◌+◌, ◌<◌, ◌≤◌, [], ◌∷◌, ◌++◌, length, replicate, remove, slice_get, slice_set, IsOk, OnOk, OnErr};
+ghost use Rattle.std.specs.Prelude.{◌≡◌, ℕ, ◌+◌, ◌<◌, ◌≤◌, [], ◌∷◌, ◌++◌, length, get_or, replicate, remove, slice_get, slice_set, IsOk, OnOk, OnErr, None};
 ghost use Rattle.bucket_arena.specs.Arena.{bucket_of, item_count, HasGrown};
 
 use crate::chain::{Cell, Chain, append, next_free, number_at, release, replace, unlink};
@@ -47,13 +47,25 @@ impl<T: Copy> Arena<T> {
         ensures spare { result.spare ≡ 0 }
         ensures count { item_count result ≡ 0 }
     {
+        Arena::over(Row::new(alloc))
+    }
+
+    /// An arena of empty lists whose cells are those of the row, all of them bare.
+    fn over(row: Row<Cell<T>>) -> Arena<T>
+        requires bare { (number : ℕ) → get_or row number None ≡ None }
+        requires few { length row < 4294967295 }
+        ensures buckets { result.buckets ≡ replicate 256 [] }
+        ensures spare { result.spare ≡ length row }
+        ensures count { item_count result ≡ 0 }
+    {
         let empty = Chain {
             first: 0,
             last: 0,
             len: 0,
+            run: 0,
         };
         Arena {
-            row: Row::new(alloc),
+            row,
             chains: [empty; 256],
             free: empty,
             made: 0,
@@ -61,7 +73,7 @@ impl<T: Copy> Arena<T> {
     }
 
     /// Makes `spare` at least `n`. Where the room grows it at least doubles, so that pushes take constant time on
-    /// average.
+    /// average, and the items are settled as by `settle`.
     ///
     /// The number of all items and `n` add up to less than 4,294,967,295.
     pub fn reserve(&mut self, n: u32) -> Result<(), OutOfMemory>
@@ -74,15 +86,71 @@ impl<T: Copy> Arena<T> {
         ensures held { n ≤ self.old.spare → IsOk result }
         ensures refused { OnErr result (self.new.spare ≡ self.old.spare) }
     {
-        let room = self.row.room();
-        let made = self.made as usize;
-        let free = self.free.len as usize;
-        if n as usize <= free + (room - made) {
+        let (room, spare) = (self.room(), self.spare());
+        if n as usize <= spare {
             return Ok(());
         }
-        let needed = made - free + n as usize;
+        let needed = room - spare + n as usize;
         let doubled = (room + room).min(MOST_CELLS);
-        self.row.grow(self.made, needed.max(doubled))
+        self.move_to(needed.max(doubled))
+    }
+
+    /// Lays the items of each bucket side by side in a new piece of memory, where `at` finds them without a walk until one
+    /// of their bucket is taken. The room stays the same.
+    pub fn settle(&mut self) -> Result<(), OutOfMemory>
+        ensures lists { self.new.buckets ≡ self.old.buckets }
+        ensures spare { self.new.spare ≡ self.old.spare }
+    {
+        let room = self.room();
+        if room == 0 {
+            return Ok(());
+        }
+        self.move_to(room)
+    }
+
+    /// How many items there is room for, with those that stand in the buckets.
+    fn room(&self) -> usize
+        ensures room { result ≡ item_count self.now + self.now.spare }
+        ensures few { result < 4294967295 }
+    {
+        self.row.room()
+    }
+
+    /// How many more items there is room for.
+    fn spare(&self) -> usize
+        ensures { result ≡ self.now.spare }
+    {
+        self.free.len as usize + (self.row.room() - self.made as usize)
+    }
+
+    /// Moves the items to a piece with room for `room` items in all, bucket by bucket.
+    fn move_to(&mut self, room: usize) -> Result<(), OutOfMemory>
+        requires enough { item_count self.old ≤ room }
+        requires few { room < 4294967295 }
+        ensures lists { self.new.buckets ≡ self.old.buckets }
+        ensures room { OnOk result (item_count self.old + self.new.spare ≡ room) }
+        ensures refused { OnErr result (self.new.spare ≡ self.old.spare) }
+    {
+        let row = Row::with_room(self.row.alloc(), room)?;
+        let mut moved = Arena::over(row);
+        'buckets: for number in 0..256u16 {
+            let bucket = number as u8;
+            moved.extend(bucket, self.iter(bucket));
+        }
+        *self = moved;
+        Ok(())
+    }
+
+    /// Puts the items behind those of the bucket. There is room for them.
+    fn extend(&mut self, bucket: u8, items: Items<'_, T>)
+        requires buckets { length self.old.buckets ≡ 256 }
+        requires spare { length items ≤ self.old.spare }
+        ensures lists { self.new.buckets ≡ slice_set self.old.buckets bucket (bucket_of self.old bucket ++ items.entry) }
+        ensures room { item_count self.new + self.new.spare ≡ item_count self.old + self.old.spare }
+    {
+        'items: for item in items {
+            self.push(bucket, item);
+        }
     }
 
     /// Puts the item last in its bucket. `spare` is at least 1, and falls by 1.
@@ -106,8 +174,8 @@ impl<T: Copy> Arena<T> {
         self.chains[bucket as usize].len
     }
 
-    /// The item at a place of the bucket, below its length. It walks the bucket's chain up to there, so take `iter` for
-    /// all of a bucket.
+    /// The item at a place of the bucket, below its length. Where items were taken since they were settled, it walks the
+    /// bucket's chain up to there, so take `iter` for all of a bucket.
     pub fn at(&self, bucket: u8, place: u32) -> T
         requires { place < length (bucket_of self.now bucket) }
         ensures { slice_get (bucket_of self.now bucket) place ≡ Some result }

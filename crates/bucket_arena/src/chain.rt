@@ -1,5 +1,5 @@
 //! Chains of cells: each cell has the number of the next.
-ghost use Rattle.std.specs.Prelude.{◌≡◌, ℕ, ◌+◌, ◌<◌, ◌≤◌, ◌≢◌, ◌^◌, [], ◌∷◌, ◌++◌, length, Some, None, get_or, slice_set, remove, slice_get};
+ghost use Rattle.std.specs.Prelude.{◌≡◌, ℕ, ◌+◌, ◌<◌, ◌≤◌, ◌≢◌, ◌⊎◌, ◌^◌, [], ◌∷◌, ◌++◌, length, Some, None, get_or, slice_set, remove, slice_get};
 ghost use Rattle.bucket_arena.specs.Row.{IsWritten};
 ghost use Rattle.bucket_arena.specs.Chains.{cell_at, numbers, items, occurrences, IsWhole, IsNextFree};
 
@@ -12,13 +12,15 @@ pub(crate) struct Cell<T> {
     pub(crate) next: u32,
 }
 
-/// A chain of cells: the numbers of its first and its last cell, and how many cells it has. Without cells the numbers
-/// mean nothing.
+/// A chain of cells: the numbers of its first and its last cell, how many cells it has, and how many of those after the
+/// first are its neighbours in the row, one after another: their numbers need no walk. Without cells the numbers mean
+/// nothing.
 #[derive(Clone, Copy)]
 pub(crate) struct Chain {
     pub(crate) first: u32,
     pub(crate) last: u32,
     pub(crate) len: u32,
+    pub(crate) run: u32,
 }
 
 /// A chain that lost a cell, and the number of that cell.
@@ -32,11 +34,13 @@ pub(crate) struct Unlinked {
 pub(crate) fn number_at<T: Copy>(row: &Row<Cell<T>>, chain: Chain, place: u32) -> u32
     requires place { place < chain.len }
     requires whole { IsWhole row.now chain }
+    requires few { length row.now < 2 ^ 32 }
     ensures number { result ≡ get_or (numbers (cell_at row.now) chain) place 0 }
     ensures written { IsWritten row.now result }
 {
-    let mut number = chain.first;
-    'walked: for _ in 0..place {
+    let run = place.min(chain.run);
+    let mut number = chain.first + run;
+    'walked: for _ in run..place {
         number = row.read(number).next;
     }
     number
@@ -80,6 +84,7 @@ pub(crate) fn append<T: Copy>(row: &mut Row<Cell<T>>, chain: Chain, number: u32,
             first: number,
             last: number,
             len: 1,
+            run: 0,
         };
     }
     let item = row.read(chain.last).item;
@@ -88,6 +93,21 @@ pub(crate) fn append<T: Copy>(row: &mut Row<Cell<T>>, chain: Chain, number: u32,
         first: chain.first,
         last: number,
         len: chain.len + 1,
+        run: run_with(chain, number),
+    }
+}
+
+/// The run of the chain once the cell `number` is linked at its end: one more where the chain is all run, and the cell the
+/// next in the row.
+fn run_with(chain: Chain, number: u32) -> u32
+    requires some { 0 < chain.len }
+    ensures longer { chain.run + 1 ≡ chain.len → number ≡ chain.last + 1 → result ≡ chain.len }
+    ensures same { (result ≡ chain.run) ⊎ ((result ≡ chain.len) × (chain.run + 1 ≡ chain.len) × (number ≡ chain.last + 1)) }
+{
+    if chain.run == chain.len - 1 && number > chain.last && number - chain.last == 1 {
+        chain.len
+    } else {
+        chain.run
     }
 }
 
@@ -95,6 +115,7 @@ pub(crate) fn append<T: Copy>(row: &mut Row<Cell<T>>, chain: Chain, number: u32,
 pub(crate) fn unlink<T: Copy>(row: &mut Row<Cell<T>>, chain: Chain, place: u32) -> Unlinked
     requires whole { IsWhole row.old chain }
     requires place { place < chain.len }
+    requires few { length row.old < 2 ^ 32 }
     ensures number { result.number ≡ get_or (numbers (cell_at row.old) chain) place 0 }
     ensures numbers { numbers (cell_at row.new) result.chain ≡ remove (numbers (cell_at row.old) chain) place }
     ensures items { items (cell_at row.new) result.chain ≡ remove (items (cell_at row.old) chain) place }
@@ -114,21 +135,36 @@ pub(crate) fn unlink<T: Copy>(row: &mut Row<Cell<T>>, chain: Chain, place: u32) 
                 first,
                 last: chain.last,
                 len,
+                run: chain.run.saturating_sub(1),
             },
         };
     }
     let before = number_at(row, chain, place - 1);
-    let number = number_at(row, chain, place);
-    let next = row.read(number).next;
-    let item = row.read(before).item;
+    let link = row.read(before);
+    let item = link.item;
+    let next = row.read(link.next).next;
     row.write(before, Cell { item, next });
     Unlinked {
-        number,
+        number: link.next,
         chain: Chain {
             first: chain.first,
-            last: if place == len { before } else { chain.last },
+            last: last_without(chain, place, before),
             len,
+            run: chain.run.min(place - 1),
         },
+    }
+}
+
+/// The last cell of the chain once the one at a place after the first is taken out, which the cell `before` led to.
+fn last_without(chain: Chain, place: u32, before: u32) -> u32
+    requires some { 0 < chain.len }
+    ensures of_the_last { place + 1 ≡ chain.len → result ≡ before }
+    ensures of_another { place + 1 ≢ chain.len → result ≡ chain.last }
+{
+    if place == chain.len - 1 {
+        before
+    } else {
+        chain.last
     }
 }
 
@@ -155,6 +191,7 @@ pub(crate) fn release<T: Copy>(row: &mut Row<Cell<T>>, free: Chain, number: u32)
         first: number,
         last: free.last,
         len: free.len + 1,
+        run: 0,
     }
 }
 
@@ -162,6 +199,7 @@ pub(crate) fn release<T: Copy>(row: &mut Row<Cell<T>>, free: Chain, number: u32)
 pub(crate) fn replace<T: Copy>(row: &mut Row<Cell<T>>, chain: Chain, place: u32, item: T)
     requires whole { IsWhole row.old chain }
     requires place { place < chain.len }
+    requires few { length row.old < 2 ^ 32 }
     ensures numbers { numbers (cell_at row.new) chain ≡ numbers (cell_at row.old) chain }
     ensures items { items (cell_at row.new) chain ≡ slice_set (items (cell_at row.old) chain) place item }
     ensures others { (n : ℕ) → occurrences n (numbers (cell_at row.old) chain) ≡ 0 → cell_at row.new n ≡ cell_at row.old n }

@@ -1,15 +1,14 @@
-//! A row of cells that can move to a larger piece of raw memory.
-ghost use Rattle.std.specs.Prelude.{◌≡◌, ℕ, ◌<◌, ◌≤◌, [], length, Some, None, get_or, slice_set, IfOk, IfErr, OnOk, OnErr};
+//! A row of cells in one piece of raw memory.
+ghost use Rattle.std.specs.Prelude.{◌≡◌, ◌<◌, [], length, replicate, Some, None, get_or, slice_set, IfOk};
 ghost use Rattle.bucket_arena.specs.Row.{IsWritten, IsPieceOf};
 
 use crate::piece::{Piece, Title, give_back, take_piece};
 use out_of_memory::OutOfMemory;
 use std::alloc::Global;
 use std::marker::Model;
-use std::mem;
 use std_alloc::room::may_hold;
 
-/// A row of cells, seen as the list of what they hold. It takes no memory until it grows.
+/// A row of cells, seen as the list of what they hold.
 pub(crate) struct Row<T: Copy> {
     piece: Option<(Piece<T>, Title<T, Global>)>,
     room: usize,
@@ -29,6 +28,7 @@ impl<T: Copy> Model for Row<T> {
 }
 
 impl<T: Copy> Row<T> {
+    /// A row without cells. It takes no memory.
     pub(crate) fn new(alloc: Global) -> Row<T>
         ensures { result ≡ [] }
     {
@@ -37,6 +37,26 @@ impl<T: Copy> Row<T> {
             room: 0,
             alloc,
         }
+    }
+
+    /// A row of `room` bare cells.
+    pub(crate) fn with_room(alloc: Global, room: usize) -> Result<Row<T>, OutOfMemory>
+        ensures { IfOk result (λ row. row ≡ replicate room None) }
+    {
+        if !may_hold::<T>(room) {
+            return Err(OutOfMemory);
+        }
+        let (piece, title) = take_piece(&alloc, room)?;
+        Ok(Row {
+            piece: Some((piece, title)),
+            room,
+            alloc,
+        })
+    }
+
+    /// Where its memory comes from.
+    pub(crate) fn alloc(&self) -> Global {
+        self.alloc
     }
 
     /// How many cells there are.
@@ -67,29 +87,6 @@ impl<T: Copy> Row<T> {
             None => unreachable!(),
         }
     }
-
-    /// Moves the cells to a larger piece of `room` cells. The cells below `made` are those that were ever written.
-    pub(crate) fn grow(&mut self, made: u32, room: usize) -> Result<(), OutOfMemory>
-        requires written { (number : ℕ) → number < made → IsWritten self.old number }
-        requires bare { (number : ℕ) → made ≤ number → get_or self.old number None ≡ None }
-        requires larger { length self.old ≤ room }
-        requires within { made ≤ length self.old }
-        ensures room { OnOk result (length self.new ≡ room) }
-        ensures stands { (number : ℕ) → get_or self.new number None ≡ get_or self.old number None }
-        ensures refused { OnErr result (self.new ≡ self.old) }
-    {
-        if !may_hold::<T>(room) {
-            return Err(OutOfMemory);
-        }
-        let (mut larger, title) = take_piece(&self.alloc, room)?;
-        if let Some((piece, _)) = &self.piece {
-            move_cells(piece, &mut larger, made);
-        }
-        let old = mem::replace(&mut self.piece, Some((larger, title)));
-        let old_room = mem::replace(&mut self.room, room);
-        give_up(&self.alloc, old_room, old);
-        Ok(())
-    }
 }
 
 impl<T: Copy> Drop for Row<T> {
@@ -105,19 +102,5 @@ fn give_up<T: Copy>(alloc: &Global, room: usize, piece: Option<(Piece<T>, Title<
 {
     if let Some((piece, title)) = piece {
         give_back(alloc, room, piece, title);
-    }
-}
-
-/// Writes the cells below `made` of one piece to the same places of another.
-fn move_cells<T: Copy>(from: &Piece<T>, to: &mut Piece<T>, made: u32)
-    requires written { (number : ℕ) → number < made → IsWritten from.now.cells number }
-    requires room { made ≤ length to.old.cells }
-    ensures moved { (number : ℕ) → number < made → get_or to.new.cells number None ≡ get_or from.now.cells number None }
-    ensures beyond { (number : ℕ) → made ≤ number → get_or to.new.cells number None ≡ get_or to.old.cells number None }
-    ensures room { length to.new.cells ≡ length to.old.cells }
-    ensures place { to.new.at ≡ to.old.at }
-{
-    'moved: for number in 0..made {
-        to.write(number as usize, *from.read(number as usize));
     }
 }

@@ -13,3 +13,4 @@ pub mod OneCase
 pub mod Answering
 pub mod Accepting
 pub mod Removed
+mod Settled

@@ -1,4 +1,4 @@
-ghost use Rattle.std.specs.Prelude.{◌≡◌, ◌+◌, ◌-◌, ◌<◌, ◌≤◌, ◌^◌, List, [], ◌∷◌, ◌++◌, ℕ, IsPermutation, OnOk, IfSome, Some, length, option_map, replicate, slice_index, slice_set};
+ghost use Rattle.std.specs.Prelude.{◌≡◌, ◌+◌, ◌-◌, ◌<◌, ◌≤◌, ◌^◌, List, [], ◌∷◌, ◌++◌, ℕ, IsPermutation, IfOk, OnOk, IfSome, Some, length, option_map, replicate, slice_index, slice_set};
 ghost use Rattle.std.specs.List.{slice_get};
 ghost use Rattle.bucket_arena.specs.Arena.{bucket_of, item_count};
 ghost use Rattle.flow_types.specs.Map.{AreDistinct, flow_at, without};
@@ -63,28 +63,35 @@ pub(crate) fn flow_of(found: Option<Found>) -> Option<Flow>
 }
 
 impl OwnedBlock {
-    /// The block of an image without its flows, which are still to be pushed. Its groups take the rows that the image
-    /// says. It takes no memory.
-    pub(crate) fn open(alloc: Global, image: &BlockImage) -> OwnedBlock
-        ensures choices { result.choices ≡ image.now.choices }
-        ensures buckets { result.arena.buckets ≡ replicate 256 [] }
-        ensures numbers { length result.rows ≡ 64 }
-        ensures rows { (group : ℕ) (content : GroupRecord) → group < 64 →
-            slice_get image.now.records group ≡ Some content → slice_index result.rows group ≡ rows_in content }
+    /// The block of an image without its flows, which are still to be pushed: it has room for so many. Its groups take
+    /// the rows that the image says.
+    pub(crate) fn open(
+        alloc: Global,
+        image: &BlockImage,
+        room: u32,
+    ) -> Result<OwnedBlock, OutOfMemory>
+        requires { room ≤ 1536 }
+        ensures choices { IfOk result (λ block. block.choices ≡ image.now.choices) }
+        ensures buckets { IfOk result (λ block. block.arena.buckets ≡ replicate 256 []) }
+        ensures numbers { IfOk result (λ block. length block.rows ≡ 64) }
+        ensures rows { IfOk result (λ block. (group : ℕ) (content : GroupRecord) → group < 64 →
+            slice_get image.now.records group ≡ Some content → slice_index block.rows group ≡ rows_in content) }
     {
+        let mut arena = Arena::new(alloc);
+        arena.reserve(room)?;
         let mut rows = [0; GROUPS as usize];
         let mut used = 0;
         'groups: for group in 0..GROUPS {
             rows[group as usize] = image.record(group).rows();
             used += rows[group as usize] as usize;
         }
-        OwnedBlock {
+        Ok(OwnedBlock {
             choices: *image.choices(),
-            arena: Arena::new(alloc),
+            arena,
             rows,
             keys: 0,
             used,
-        }
+        })
     }
 
     /// The group, 0..=63, of a bucket.
@@ -120,6 +127,13 @@ impl OwnedBlock {
         ensures spare { OnOk result (0 < self.new.arena.spare) }
     {
         self.arena.reserve(1)
+    }
+
+    /// Lays the flows of each bucket side by side.
+    pub(crate) fn settle(&mut self) -> Result<(), OutOfMemory>
+        ensures { part_in self.new ≡ part_in self.old }
+    {
+        self.arena.settle()
     }
 
     /// Puts a flow behind those of its bucket. There is room for it.

@@ -1,6 +1,7 @@
-//! How an owner is opened: its blocks without flows first, and then each flow at its place.
+//! How an owner is opened: its blocks without flows first, then each flow at its place, and at last the flows of each bucket
+//! side by side.
 
-ghost use Rattle.std.specs.Prelude.{◌≡◌, ◌<◌, [], List, IfOk, OnOk, drop, length, map, take};
+ghost use Rattle.std.specs.Prelude.{◌≡◌, ◌<◌, ◌≤◌, [], List, IfOk, OnOk, drop, length, map, take};
 ghost use Rattle.flow_types.specs.Map.{AreDistinct};
 ghost use Rattle.group_search.specs.Build.{IsBuild};
 ghost use Rattle.rib_owner.specs.Opening.{AreFilled};
@@ -14,7 +15,7 @@ use group_history::Journal;
 use group_search::{BlockImage, MOST_ENTRIES};
 use hash_family::place;
 use out_of_memory::OutOfMemory;
-use std::alloc::{AllocError, Global};
+use std::alloc::Global;
 
 impl Owner {
     /// The owner of this number, with the flows of its blocks and an empty journal.
@@ -48,6 +49,14 @@ impl Owner {
     }
 }
 
+/// For how many flows each of so many blocks makes room at first: an eighth more than their mean.
+fn likely_flows(flows: usize, blocks: u16) -> u32
+    ensures { result ≤ 1536 }
+{
+    let mean = (flows / usize::from(blocks).max(1)).min(MOST_ENTRIES);
+    (mean + mean / 8).min(MOST_ENTRIES) as u32
+}
+
 /// The owner's blocks without their flows.
 fn empty_blocks(
     alloc: Global,
@@ -55,17 +64,18 @@ fn empty_blocks(
     number: u8,
     flows: &[Flow],
     images: &[BlockImage],
-) -> Result<Vec<OwnedBlock>, AllocError>
+) -> Result<Vec<OwnedBlock>, OutOfMemory>
     requires node { number < shape.nodes }
     requires built { IsBuild shape flows.now images.now }
     ensures { IfOk result (λ blocks. AreFilled shape number flows.now [] (map part_in blocks.items)) }
 {
-    let _ = flows;
     let (nodes, count) = (shape.nodes(), shape.blocks());
+    let room = likely_flows(flows.len(), count);
     let mut blocks = Vec::new(alloc);
     let mut block = u16::from(number);
     'dealt: while block < count {
-        blocks.push(OwnedBlock::open(alloc, &images[usize::from(block)]))?;
+        let image = &images[usize::from(block)];
+        blocks.push(OwnedBlock::open(alloc, image, room)?)?;
         block += nodes;
     }
     Ok(blocks)
@@ -91,5 +101,16 @@ fn filled_blocks(
             block.push(at.bucket, *flow)?;
         }
     }
+    settle(blocks.as_mut_slice())?;
     Ok(blocks)
+}
+
+/// Lays the flows of each bucket of the blocks side by side, which were pushed as they came.
+fn settle(blocks: &mut [OwnedBlock]) -> Result<(), OutOfMemory>
+    ensures { map part_in blocks.new ≡ map part_in blocks.old }
+{
+    'settled: for index in 0..blocks.len() {
+        blocks[index].settle()?;
+    }
+    Ok(())
 }

@@ -32,6 +32,23 @@ fn opened(rt: &(impl Threads + Sync), alloc: Global) -> Result<Owner, Fail> {
     Ok(Owner::open(alloc, four_nodes, 0, &[], images.as_slice())?)
 }
 
+/// The owner of the block of this shape, with this flow, which node 0 handles. `None` for want of memory.
+fn opened_with(
+    rt: &(impl Threads + Sync),
+    alloc: Global,
+    shape: Shape,
+    flow: Flow,
+) -> Option<Owner> {
+    let flows = [Flow { node: 0, ..flow }];
+    let Ok(images) = build(rt, alloc, shape, &flows, 1) else {
+        return None;
+    };
+    match Owner::open(alloc, shape, 0, &flows, images.as_slice()) {
+        Ok(owner) => Some(owner),
+        Err(_) => None,
+    }
+}
+
 fn asked(rt: &impl Abort, owner: &mut Owner, update: Update) -> Result<Turn, UpdateRefused> {
     assert!(rt; owner.owns(update.key()));
     owner.accept(update)
@@ -60,6 +77,47 @@ fn gives_turns_and_plans(rt: HostRuntime) -> Result<(), Fail> {
     }
     assert_eq!(rt; owner.journal().len(), 4);
     assert_eq!(rt; owner.find(key), None);
+    Ok(())
+}
+
+/// Whether the owner has the flows of these ports below `end`, and none of the others.
+fn has_ports_below(rt: &impl Abort, owner: &Owner, end: u16) {
+    'ports: for port in FIRST_PORT..=LAST_PORT {
+        let kept = if port < end {
+            Some((1, flow(port, 1).info))
+        } else {
+            None
+        };
+        assert_eq!(rt; owner.find(flow(port, 1).key), kept, "port {port}");
+    }
+}
+
+const FIRST_PORT: u16 = 1000;
+
+const LAST_PORT: u16 = 1020;
+
+/// Meant for allocations that fail one by one: the owner is as before, and the next try succeeds.
+#[test]
+fn is_as_before_where_memory_is_wanted(rt: HostRuntime) -> Result<(), Fail> {
+    let kept = flow(7, 0);
+    let four_nodes = shape()?;
+    let mut owner = match opened_with(&rt, rt.alloc(), four_nodes, kept) {
+        Some(owner) => owner,
+        None => opened_with(&rt, rt.alloc(), four_nodes, kept).ok_or("an owner")?,
+    };
+    'ports: for port in FIRST_PORT..=LAST_PORT {
+        let turns = owner.journal().len();
+        let update = Update::Set(flow(port, 1));
+        if let Err(refused) = asked(&rt, &mut owner, update) {
+            assert_eq!(rt; refused, UpdateRefused::OutOfMemory);
+            assert_eq!(rt; owner.journal().len(), turns);
+            has_ports_below(&rt, &owner, port);
+            asked(&rt, &mut owner, update)?;
+        }
+        assert_eq!(rt; owner.journal().len(), turns.saturating_add(1));
+        has_ports_below(&rt, &owner, port.saturating_add(1));
+    }
+    assert_eq!(rt; owner.find(kept.key), Some((0, kept.info)));
     Ok(())
 }
 

@@ -1,17 +1,17 @@
-use Rattle.std.proofs.Common.{◌≡◌, ◌+◌, ◌<◌, ◌∷◌, [], ◌++◌, refl, sym, ap, arith}
+use Rattle.std.proofs.Common.{◌≡◌, ◌<◌, ◌∷◌, [], ◌++◌, sym, ap, arith}
 use Rattle.bucket_arena.specs.declared.chain.Cell.{Cell}
 use Rattle.bucket_arena.specs.Chains.{cell_at, numbers_from}
 use Rattle.bucket_arena.proofs.Written.{wrote_there, still_written}
-use Rattle.bucket_arena.proofs.Appending.{last_stands, whole_grown, linked, items_now, whole_now, still, others}
+use Rattle.bucket_arena.proofs.Appending.{last_stands, first_marked, whole_grown, linked, items_now, whole_now, still, others}
 use Rattle.bucket_arena.proofs.chain.append.Goals as goal
 
 pub returns-then-chain-eq0-clause-whole : goal.returns-then-chain-eq0-clause-whole
 returns-then-chain-eq0-clause-whole g c =
     let cells = c.args.row.now in let chain = c.args.chain in let number = c.args.number in
-    let none : chain.len ≡ 0 = omega arith in let one : 1 ≡ chain.len + 1 = omega arith in
+    let none : chain.len ≡ 0 = omega arith in
     let new : Cell g.row.T.Denot = record { item = c.args.item; next = number } in
-    whole_grown cells chain c.write.new.self (record { first = number; last = number; len = 1 }) number c.args.item c.requires.whole
-    (ap (λ k. numbers_from (cell_at cells) k chain.first ++ number ∷ []) (sym none)) one refl c.requires.apart
+    whole_grown cells chain c.write.new.self (record { first = number; last = number; len = 1; run = 0 }) number c.args.item c.requires.whole
+    (ap (λ k. numbers_from (cell_at cells) k chain.first ++ number ∷ []) (sym none)) (first_marked cells chain number none) c.requires.apart
     (still_written cells c.write.new.self number new c.write.ensures c.requires.room) (new, wrote_there cells c.write.new.self number new c.write.ensures c.requires.room)
 
 pub returns-then-chain-eq0-clause-written : goal.returns-then-chain-eq0-clause-written
@@ -27,24 +27,24 @@ read-item-requires g c =
 pub returns-clause-numbers : goal.returns-clause-numbers
 returns-clause-numbers g c =
     let some : 0 < c.args.chain.len = omega arith in
-    linked c.args.row.now c.write.new.self c.write-2.new.self c.args.chain c.args.number c.args.item c.read-item.result c.requires.whole c.requires.apart c.requires.room some c.write.ensures c.read-item.ensures c.write-2.ensures
+    linked c.args.row.now c.write.new.self c.write-2.new.self c.args.chain c.args.number c.args.item c.read-item.result c.requires.whole c.requires.apart c.requires.room some c.run_with.result c.run_with.ensures.same c.write.ensures c.read-item.ensures c.write-2.ensures
 
 pub returns-clause-items : goal.returns-clause-items
 returns-clause-items g c =
     let some : 0 < c.args.chain.len = omega arith in
-    items_now c.args.row.now c.write.new.self c.write-2.new.self c.args.chain c.args.number c.args.item c.read-item.result c.requires.whole c.requires.apart c.requires.room some c.write.ensures c.read-item.ensures c.write-2.ensures
+    items_now c.args.row.now c.write.new.self c.write-2.new.self c.args.chain c.args.number c.args.item c.read-item.result c.requires.whole c.requires.apart c.requires.room some c.run_with.result c.run_with.ensures.same c.write.ensures c.read-item.ensures c.write-2.ensures
 
 pub returns-clause-whole : goal.returns-clause-whole
 returns-clause-whole g c =
     let some : 0 < c.args.chain.len = omega arith in
-    whole_now c.args.row.now c.write.new.self c.write-2.new.self c.args.chain c.args.number c.args.item c.read-item.result c.requires.whole c.requires.apart c.requires.room some c.write.ensures c.read-item.ensures c.write-2.ensures
+    whole_now c.args.row.now c.write.new.self c.write-2.new.self c.args.chain c.args.number c.args.item c.read-item.result c.requires.whole c.requires.apart c.requires.room some c.run_with.result c.run_with.ensures.same c.write.ensures c.read-item.ensures c.write-2.ensures
 
 pub returns-clause-others : goal.returns-clause-others
 returns-clause-others g c =
     let some : 0 < c.args.chain.len = omega arith in
-    others c.args.row.now c.write.new.self c.write-2.new.self c.args.chain c.args.number c.args.item c.read-item.result c.requires.whole c.requires.apart c.requires.room some c.write.ensures c.read-item.ensures c.write-2.ensures
+    others c.args.row.now c.write.new.self c.write-2.new.self c.args.chain c.args.number c.args.item c.read-item.result c.requires.whole c.requires.apart c.requires.room some c.run_with.result c.run_with.ensures.same c.write.ensures c.read-item.ensures c.write-2.ensures
 
 pub returns-clause-written : goal.returns-clause-written
 returns-clause-written g c =
     let some : 0 < c.args.chain.len = omega arith in
-    still c.args.row.now c.write.new.self c.write-2.new.self c.args.chain c.args.number c.args.item c.read-item.result c.requires.whole c.requires.apart c.requires.room some c.write.ensures c.read-item.ensures c.write-2.ensures
+    still c.args.row.now c.write.new.self c.write-2.new.self c.args.chain c.args.number c.args.item c.read-item.result c.requires.whole c.requires.apart c.requires.room some c.run_with.result c.run_with.ensures.same c.write.ensures c.read-item.ensures c.write-2.ensures

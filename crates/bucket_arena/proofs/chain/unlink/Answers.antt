@@ -1,9 +1,9 @@
-use Rattle.std.proofs.Common.{◌≡◌, ◌+◌, ◌-◌, ◌<◌, refl, subst, arith, get_or}
+use Rattle.std.proofs.Common.{◌≡◌, ◌-◌, ◌<◌, refl, sym, subst, arith, get_or}
 use Rattle.bucket_arena.specs.Chains.{cell_at, numbers}
 use Rattle.bucket_arena.specs.Row.{IsWritten}
 use Rattle.bucket_arena.proofs.Links.{followed}
 use Rattle.bucket_arena.proofs.Appending.{at_place}
-use Rattle.bucket_arena.proofs.Unlinking.{whole_shrunk, unlinked, items_now, still, others, ends_before, ends_same, first_out}
+use Rattle.bucket_arena.proofs.Unlinking.{number_is, unlinked, items_now, whole_now, still, taken, others, first_out}
 use Rattle.bucket_arena.proofs.chain.unlink.Goals as goal
 
 pub read-first-requires : goal.read-first-requires
@@ -14,59 +14,44 @@ read-first-requires g c =
 
 pub returns-then-place-eq0-clause-whole : goal.returns-then-place-eq0-clause-whole
 returns-then-place-eq0-clause-whole g c =
-    first_out c.args.row.now c.args.chain c.args.place c.requires.whole c.requires.place (omega arith) c.read-first.result c.read-first.ensures
+    first_out c.args.row.now c.args.chain c.args.place c.requires.whole c.requires.place (omega arith) c.read-first.result c.read-first.ensures c.saturating_sub.result (omega (arith, c.saturating_sub.ensures))
 
-pub returns-then-place-len-clause-numbers : goal.returns-then-place-len-clause-numbers
-returns-then-place-len-clause-numbers g c =
+pub read-next-requires : goal.read-next-requires
+read-next-requires g c =
+    let some : 0 < c.args.place = omega arith in let is = (number_is c.args.row.now c.args.chain c.args.place c.number_at-before.result c.read-link.result c.requires.place some c.number_at-before.ensures.number c.read-link.ensures) in
+    subst (IsWritten c.args.row.now) (sym is) (c.requires.whole.written _ (at_place c.args.row.now c.args.chain c.args.place c.requires.place))
+
+pub returns-clause-number : goal.returns-clause-number
+returns-clause-number g c =
     let some : 0 < c.args.place = omega arith in
-    unlinked c.args.row.now c.write.new.self c.args.chain c.args.place c.number_at-before.result c.number_at-number.result c.read-next.result c.read-item.result c.requires.whole c.requires.place some c.number_at-before.ensures.number c.number_at-number.ensures.number c.read-next.ensures c.read-item.ensures c.write.ensures (record { first = c.args.chain.first; last = c.number_at-before.result; len = c.args.chain.len - 1 }) refl refl
+    number_is c.args.row.now c.args.chain c.args.place c.number_at-before.result c.read-link.result c.requires.place some c.number_at-before.ensures.number c.read-link.ensures
 
-pub returns-then-place-len-clause-items : goal.returns-then-place-len-clause-items
-returns-then-place-len-clause-items g c =
-    let some : 0 < c.args.place = omega arith in
-    items_now c.args.row.now c.write.new.self c.args.chain c.args.place c.number_at-before.result c.number_at-number.result c.read-next.result c.read-item.result c.requires.whole c.requires.place some c.number_at-before.ensures.number c.number_at-number.ensures.number c.read-next.ensures c.read-item.ensures c.write.ensures (record { first = c.args.chain.first; last = c.number_at-before.result; len = c.args.chain.len - 1 }) refl refl
+pub returns-clause-numbers : goal.returns-clause-numbers
+returns-clause-numbers g c =
+    let some : 0 < c.args.place = omega arith in let is = (number_is c.args.row.now c.args.chain c.args.place c.number_at-before.result c.read-link.result c.requires.place some c.number_at-before.ensures.number c.read-link.ensures) in
+    unlinked c.args.row.now c.write.new.self c.args.chain c.args.place c.number_at-before.result c.read-link.result.next c.read-next.result c.read-link.result c.requires.whole c.requires.place some c.number_at-before.ensures.number is c.read-next.ensures c.read-link.ensures c.write.ensures (record { first = c.args.chain.first; last = c.last_without.result; len = c.args.chain.len - 1; run = c.min.result }) refl refl
 
-pub returns-then-place-len-clause-others : goal.returns-then-place-len-clause-others
-returns-then-place-len-clause-others g c =
-    let some : 0 < c.args.place = omega arith in
-    others c.args.row.now c.write.new.self c.args.chain c.args.place c.number_at-before.result c.number_at-number.result c.read-next.result c.read-item.result c.requires.whole c.requires.place some c.number_at-before.ensures.number c.number_at-number.ensures.number c.read-next.ensures c.read-item.ensures c.write.ensures
+pub returns-clause-items : goal.returns-clause-items
+returns-clause-items g c =
+    let some : 0 < c.args.place = omega arith in let is = (number_is c.args.row.now c.args.chain c.args.place c.number_at-before.result c.read-link.result c.requires.place some c.number_at-before.ensures.number c.read-link.ensures) in
+    items_now c.args.row.now c.write.new.self c.args.chain c.args.place c.number_at-before.result c.read-link.result.next c.read-next.result c.read-link.result c.requires.whole c.requires.place some c.number_at-before.ensures.number is c.read-next.ensures c.read-link.ensures c.write.ensures (record { first = c.args.chain.first; last = c.last_without.result; len = c.args.chain.len - 1; run = c.min.result }) refl refl
 
-pub returns-then-place-len-clause-written : goal.returns-then-place-len-clause-written
-returns-then-place-len-clause-written g c =
-    let some : 0 < c.args.place = omega arith in
-    still c.args.row.now c.write.new.self c.args.chain c.args.place c.number_at-before.result c.number_at-number.result c.read-next.result c.read-item.result c.requires.whole c.requires.place some c.number_at-before.ensures.number c.number_at-number.ensures.number c.read-next.ensures c.read-item.ensures c.write.ensures
+pub returns-clause-whole : goal.returns-clause-whole
+returns-clause-whole g c =
+    let some : 0 < c.args.place = omega arith in let is = (number_is c.args.row.now c.args.chain c.args.place c.number_at-before.result c.read-link.result c.requires.place some c.number_at-before.ensures.number c.read-link.ensures) in
+    whole_now c.args.row.now c.write.new.self c.args.chain c.args.place c.number_at-before.result c.read-link.result.next c.read-next.result c.read-link.result c.requires.whole c.requires.place some c.number_at-before.ensures.number is c.read-next.ensures c.read-link.ensures c.write.ensures c.last_without.result c.min.result c.last_without.ensures.of_the_last c.last_without.ensures.of_another (omega (arith, c.min.ensures)) (omega (arith, c.min.ensures))
 
-pub returns-then-place-len-clause-whole : goal.returns-then-place-len-clause-whole
-returns-then-place-len-clause-whole g c =
-    let some : 0 < c.args.place = omega arith in let fewer : c.args.chain.len - 1 + 1 ≡ c.args.chain.len = omega (arith, c.requires.place) in
-    whole_shrunk c.args.row.now c.write.new.self c.args.chain (record { first = c.args.chain.first; last = c.number_at-before.result; len = c.args.chain.len - 1 }) c.args.place c.requires.whole c.requires.place
-    (unlinked c.args.row.now c.write.new.self c.args.chain c.args.place c.number_at-before.result c.number_at-number.result c.read-next.result c.read-item.result c.requires.whole c.requires.place some c.number_at-before.ensures.number c.number_at-number.ensures.number c.read-next.ensures c.read-item.ensures c.write.ensures (record { first = c.args.chain.first; last = c.number_at-before.result; len = c.args.chain.len - 1 }) refl refl) fewer (still c.args.row.now c.write.new.self c.args.chain c.args.place c.number_at-before.result c.number_at-number.result c.read-next.result c.read-item.result c.requires.whole c.requires.place some c.number_at-before.ensures.number c.number_at-number.ensures.number c.read-next.ensures c.read-item.ensures c.write.ensures)
-    (λ l. ends_before c.args.row.now c.write.new.self c.args.chain c.args.place c.number_at-before.result c.number_at-number.result c.read-next.result c.read-item.result c.requires.whole c.requires.place some c.number_at-before.ensures.number c.number_at-number.ensures.number c.read-next.ensures c.read-item.ensures c.write.ensures (omega arith) l)
+pub returns-clause-taken : goal.returns-clause-taken
+returns-clause-taken g c =
+    let some : 0 < c.args.place = omega arith in let is = (number_is c.args.row.now c.args.chain c.args.place c.number_at-before.result c.read-link.result c.requires.place some c.number_at-before.ensures.number c.read-link.ensures) in
+    taken c.args.row.now c.write.new.self c.args.chain c.args.place c.number_at-before.result c.read-link.result.next c.read-next.result c.read-link.result c.requires.whole c.requires.place some c.number_at-before.ensures.number is c.read-next.ensures c.read-link.ensures c.write.ensures
 
-pub returns-else-place-len-clause-numbers : goal.returns-else-place-len-clause-numbers
-returns-else-place-len-clause-numbers g c =
-    let some : 0 < c.args.place = omega arith in
-    unlinked c.args.row.now c.write.new.self c.args.chain c.args.place c.number_at-before.result c.number_at-number.result c.read-next.result c.read-item.result c.requires.whole c.requires.place some c.number_at-before.ensures.number c.number_at-number.ensures.number c.read-next.ensures c.read-item.ensures c.write.ensures (record { first = c.args.chain.first; last = c.args.chain.last; len = c.args.chain.len - 1 }) refl refl
+pub returns-clause-others : goal.returns-clause-others
+returns-clause-others g c =
+    let some : 0 < c.args.place = omega arith in let is = (number_is c.args.row.now c.args.chain c.args.place c.number_at-before.result c.read-link.result c.requires.place some c.number_at-before.ensures.number c.read-link.ensures) in
+    others c.args.row.now c.write.new.self c.args.chain c.args.place c.number_at-before.result c.read-link.result.next c.read-next.result c.read-link.result c.requires.whole c.requires.place some c.number_at-before.ensures.number is c.read-next.ensures c.read-link.ensures c.write.ensures
 
-pub returns-else-place-len-clause-items : goal.returns-else-place-len-clause-items
-returns-else-place-len-clause-items g c =
-    let some : 0 < c.args.place = omega arith in
-    items_now c.args.row.now c.write.new.self c.args.chain c.args.place c.number_at-before.result c.number_at-number.result c.read-next.result c.read-item.result c.requires.whole c.requires.place some c.number_at-before.ensures.number c.number_at-number.ensures.number c.read-next.ensures c.read-item.ensures c.write.ensures (record { first = c.args.chain.first; last = c.args.chain.last; len = c.args.chain.len - 1 }) refl refl
-
-pub returns-else-place-len-clause-others : goal.returns-else-place-len-clause-others
-returns-else-place-len-clause-others g c =
-    let some : 0 < c.args.place = omega arith in
-    others c.args.row.now c.write.new.self c.args.chain c.args.place c.number_at-before.result c.number_at-number.result c.read-next.result c.read-item.result c.requires.whole c.requires.place some c.number_at-before.ensures.number c.number_at-number.ensures.number c.read-next.ensures c.read-item.ensures c.write.ensures
-
-pub returns-else-place-len-clause-written : goal.returns-else-place-len-clause-written
-returns-else-place-len-clause-written g c =
-    let some : 0 < c.args.place = omega arith in
-    still c.args.row.now c.write.new.self c.args.chain c.args.place c.number_at-before.result c.number_at-number.result c.read-next.result c.read-item.result c.requires.whole c.requires.place some c.number_at-before.ensures.number c.number_at-number.ensures.number c.read-next.ensures c.read-item.ensures c.write.ensures
-
-pub returns-else-place-len-clause-whole : goal.returns-else-place-len-clause-whole
-returns-else-place-len-clause-whole g c =
-    let some : 0 < c.args.place = omega arith in let fewer : c.args.chain.len - 1 + 1 ≡ c.args.chain.len = omega (arith, c.requires.place) in
-    let below : c.args.place < c.args.chain.len - 1 = omega (arith, c.requires.place) in
-    whole_shrunk c.args.row.now c.write.new.self c.args.chain (record { first = c.args.chain.first; last = c.args.chain.last; len = c.args.chain.len - 1 }) c.args.place c.requires.whole c.requires.place
-    (unlinked c.args.row.now c.write.new.self c.args.chain c.args.place c.number_at-before.result c.number_at-number.result c.read-next.result c.read-item.result c.requires.whole c.requires.place some c.number_at-before.ensures.number c.number_at-number.ensures.number c.read-next.ensures c.read-item.ensures c.write.ensures (record { first = c.args.chain.first; last = c.args.chain.last; len = c.args.chain.len - 1 }) refl refl) fewer (still c.args.row.now c.write.new.self c.args.chain c.args.place c.number_at-before.result c.number_at-number.result c.read-next.result c.read-item.result c.requires.whole c.requires.place some c.number_at-before.ensures.number c.number_at-number.ensures.number c.read-next.ensures c.read-item.ensures c.write.ensures)
-    (λ l. ends_same c.args.row.now c.args.chain c.args.place c.requires.whole c.requires.place below)
+pub returns-clause-written : goal.returns-clause-written
+returns-clause-written g c =
+    let some : 0 < c.args.place = omega arith in let is = (number_is c.args.row.now c.args.chain c.args.place c.number_at-before.result c.read-link.result c.requires.place some c.number_at-before.ensures.number c.read-link.ensures) in
+    still c.args.row.now c.write.new.self c.args.chain c.args.place c.number_at-before.result c.read-link.result.next c.read-next.result c.read-link.result c.requires.whole c.requires.place some c.number_at-before.ensures.number is c.read-next.ensures c.read-link.ensures c.write.ensures

@@ -11,14 +11,14 @@ use Rattle.rib_owner.proofs.opening.empty_blocks.Goals as goal
 pub dealt-preserved : goal.dealt-preserved
 dealt-preserved c =
     let image : Image = c.index-images-from.result in
-    let items : map part_in c.push.new.self.items ≡ map part_in c.dealt.blocks.items ++ part_in c.open.result ∷ [] =
-    ap (map part_in) c.in_ok-push.ensures.items ∙ map-append part_in c.dealt.blocks.items (c.open.result ∷ []) in
+    let items : map part_in c.push.new.self.items ≡ map part_in c.dealt.blocks.items ++ part_in c.in_ok-open.field-0 ∷ [] =
+    ap (map part_in) c.in_ok-push.ensures.items ∙ map-append part_in c.dealt.blocks.items (c.in_ok-open.field-0 ∷ []) in
     let image_is : c.index-images-from.result ≡ get_or c.args.images.now c.dealt.block c.index-images-from.result =
     c.index-images-from.is ∙ ap (λ (i : ℕ). get_or c.args.images.now i c.index-images-from.result) c.from.ensures in
-    let none : (x : ℕ) → in_bucket c.open.result.arena.buckets x ≡ [] =
-    λ x. ap (λ (ls : List (List Flow)). in_bucket ls x) c.open.ensures.buckets ∙ none_at_all 256 x in
+    let none : (x : ℕ) → in_bucket c.in_ok-open.field-0.arena.buckets x ≡ [] =
+    λ x. ap (λ (ls : List (List Flow)). in_bucket ls x) c.in_ok-open.ensures.buckets ∙ none_at_all 256 x in
     rw (items, c.nodes-nodes.ensures.value)
-    (opened_more c.args.shape c.args.number c.args.flows.now (omega arith) c.requires.node c.dealt.block (map part_in c.dealt.blocks.items) (part_in c.open.result) c.dealt.invariant (omega arith)
-    (opened_block c.args.shape c.args.flows.now c.args.images.now c.requires.built c.dealt.block (omega arith) c.index-images-from.result (part_in c.open.result) image_is
-    c.open.ensures.choices (map_each c.open.result.choices c.open.result.arena.buckets) (empty_map c.open.result.choices c.open.result.arena.buckets none)
-    c.open.ensures.numbers c.open.ensures.rows))
+    (opened_more c.args.shape c.args.number c.args.flows.now (omega arith) c.requires.node c.dealt.block (map part_in c.dealt.blocks.items) (part_in c.in_ok-open.field-0) c.dealt.invariant (omega arith)
+    (opened_block c.args.shape c.args.flows.now c.args.images.now c.requires.built c.dealt.block (omega arith) c.index-images-from.result (part_in c.in_ok-open.field-0) image_is
+    c.in_ok-open.ensures.choices (map_each c.in_ok-open.field-0.choices c.in_ok-open.field-0.arena.buckets) (empty_map c.in_ok-open.field-0.choices c.in_ok-open.field-0.arena.buckets none)
+    c.in_ok-open.ensures.numbers c.in_ok-open.ensures.rows))

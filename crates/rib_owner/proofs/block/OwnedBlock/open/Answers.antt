@@ -32,13 +32,14 @@ groups-preserved c = record {
 pub invariant_of-result : goal.invariant_of-result
 invariant_of-result c =
     let last : c.groups.group ≡ 64 = omega arith in
-    let none : (x : ℕ) → in_bucket c.new.result.buckets x ≡ [] =
-    λ x. ap (λ (ls : List (List Flow)). in_bucket ls x) c.new.ensures.buckets ∙ none_at_all 256 x in
+    let empty : c.reserve.new.self.buckets ≡ c.new-arena.result.buckets = c.reserve.ensures.lists in
+    let none : (x : ℕ) → in_bucket c.reserve.new.self.buckets x ≡ [] =
+    λ x. ap (λ (ls : List (List Flow)). in_bucket ls x) (empty ∙ c.new-arena.ensures.buckets) ∙ none_at_all 256 x in
     record {
-      one_list_each = ap length c.new.ensures.buckets ∙ length-replicate 256 no_flows;
+      one_list_each = ap length (empty ∙ c.new-arena.ensures.buckets) ∙ length-replicate 256 no_flows;
       one_number_each = c.groups.invariant.numbers;
       placed = λ x. rw (none x) (All-nil (λ (flow : Flow). bucket_for flow.key ≡ x));
-      keys = sym c.new.ensures.count;
+      keys = sym (c.reserve.ensures.count ∙ c.new-arena.ensures.count);
       used = rows_are _ c.groups.used (c.groups.invariant.used ∙ ap (λ (n : ℕ). sum_from (λ (x : ℕ). get_or c.groups.rows x 0) 0 n) last);
     }
 
