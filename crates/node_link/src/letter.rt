@@ -1,13 +1,16 @@
 //! The octets in which a message stands in the queue.
 
-ghost use Rattle.std.specs.Prelude.{◌≡◌, All, IfOk};
+ghost use Rattle.std.specs.Prelude.{◌≡◌, All, IfOk, Ok};
 ghost use Rattle.delta_codec.specs.declared.message.Message.{Message};
 ghost use Rattle.delta_codec.specs.Fits.{Fits};
+ghost use Rattle.delta_codec.specs.Short.{message_of};
 ghost use Rattle.delta_codec.specs.Values.{IsContent, IsHead, IsKeyValue, IsMessage, IsOperation};
 ghost use Rattle.group_search.specs.Words.{IsPair};
+ghost use Rattle.node_link.specs.declared.taken.Taken.TheVariants.{Item};
 ghost use Rattle.node_link.specs.Letter.{IsLetter};
 
-use delta_codec::{FibOp, Message, decode, encode};
+use crate::taken::Taken;
+use delta_codec::{FibOp, Message, ShortMessage, TableMessage, decode, decode_short, encode};
 use flow_types::Shape;
 use group_search::{GroupRecord, Pair, Row};
 use out_of_memory::OutOfMemory;
@@ -27,14 +30,38 @@ pub(crate) fn write(alloc: Global, shape: Shape, message: &Message) -> Result<Le
     Ok(letter)
 }
 
-/// The message that the octets spell. It takes no memory.
-pub(crate) fn read(shape: Shape, letter: &Letter) -> Message
-    requires { (message : Message) × IsLetter shape letter.now message }
-    ensures { (message : Message) → IsLetter shape letter.now message → result ≡ message }
+/// The answer with the message that the octets spell. It takes no memory.
+pub(crate) fn read(shape: Shape, letter: Letter) -> Result<Taken, OutOfMemory>
+    requires { (message : Message) × IsLetter shape letter message }
+    ensures { (message : Message) → IsLetter shape letter message → result ≡ Ok (Item message) }
 {
+    // A message has room for 64 rows. So that a move doesn't copy it, each answer is made last, where it is to lie.
+    if let Ok(Some((short, _))) = decode_short(shape, letter.as_slice()) {
+        drop(letter);
+        return short_item(short);
+    }
     match decode(shape, letter.as_slice()) {
-        Ok((message, _)) => message,
+        Ok((message, _)) => Ok(Taken::Item(message)),
         Err(_) => unreachable!(),
+    }
+}
+
+/// The answer with a message without rows.
+#[inline]
+fn short_item(message: ShortMessage) -> Result<Taken, OutOfMemory>
+    ensures { result ≡ Ok (Item (message_of message)) }
+{
+    match message {
+        ShortMessage::Fib(fib) => return Ok(Taken::Item(Message::Fib(fib))),
+        ShortMessage::Table(table) => {
+            return Ok(Taken::Item(Message::Table(TableMessage {
+                owner: table.owner,
+                turn: table.turn,
+                block: table.block,
+                group: table.group,
+                content: GroupRecord::Served(table.served),
+            })));
+        }
     }
 }
 
