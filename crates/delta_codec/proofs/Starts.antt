@@ -16,7 +16,7 @@ use Rattle.delta_codec.specs.Values.{IsMessage}
 use Rattle.delta_codec.specs.Fits.{RowsFit}
 use Rattle.delta_codec.specs.Fields.{MessageField, byte_at, count_field, fields, first_fault, head_fields, operation_fields, pair_fields, row_fields, ruled}
 use Rattle.delta_codec.specs.Short.{IsRowsStart, start_fields}
-use Rattle.delta_codec.specs.Spelling.{BeginsWith, Stand, head, row_octets, spelling, two_octets}
+use Rattle.delta_codec.specs.Spelling.{BeginsWith, Stand, head, row_octets, spelling}
 use Rattle.delta_codec.proofs.Begins.{begins, begun, used_is}
 use Rattle.delta_codec.proofs.Faults.{fault_before, first_fault-append}
 use Rattle.delta_codec.proofs.Lengths.{rows-long}

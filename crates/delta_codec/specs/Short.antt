@@ -1,6 +1,7 @@
 -- Messages without rows, and what octets begin with up to the rows of a message that has rows.
-use Rattle.std.specs.Prelude.{ℕ, ◌≡◌, ◌≤◌, ◌+◌, ◌==◌, nat_lt, if◌then◌else◌, List, [], ◌∷◌, ◌++◌}
+use Rattle.std.specs.Prelude.{⊤, ℕ, ◌≡◌, ◌≤◌, ◌+◌, ◌==◌, nat_lt, if◌then◌else◌, List, [], ◌∷◌, ◌++◌}
 use Rattle.flow_types.specs.Size.{Size, value_bits}
+use Rattle.group_search.specs.declared.record.GroupRecord.{GroupRecord}
 use Rattle.group_search.specs.declared.record.GroupRecord.TheVariants as content
 use Rattle.delta_codec.specs.declared.heading.Head.{Head}
 use Rattle.delta_codec.specs.declared.message.Message.{Message}
@@ -19,6 +20,16 @@ use Rattle.delta_codec.specs.Values.{IsMessage}
 abbrev pub message_of : ShortMessage → Message
 message_of (Table m) = whole.Table (record { owner = m.owner; turn = m.turn; block = m.block; group = m.group; content = content.Served m.served })
 message_of (Fib m) = whole.Fib m
+
+-- the record has rows
+abbrev pub HasRowsIn : GroupRecord → Type 0
+HasRowsIn (content.Served pairs) = ⊥
+HasRowsIn (content.Fallback rows) = ⊤
+
+-- the message has rows
+abbrev pub IsOfRows : Message → Type 0
+IsOfRows (whole.Table m) = HasRowsIn m.content
+IsOfRows (whole.Fib m) = ⊥
 
 -- the octets are those of a message with rows, as far as the octet that says so
 abbrev pub HasRows : List ℕ → Type 0

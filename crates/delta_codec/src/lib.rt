@@ -23,7 +23,7 @@ mod starting;
 mod tests;
 
 pub use decoding::{decode, decode_short};
-pub use encoding::encode;
+pub use encoding::{encode, encode_short};
 pub use fitting::fits;
 pub use message::{FibMessage, FibOp, Message, ServedMessage, ShortMessage, TableMessage};
 pub use refused::{BadField, DecodeRefused};

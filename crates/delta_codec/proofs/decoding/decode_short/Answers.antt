@@ -1,7 +1,4 @@
-use Rattle.std.proofs.Common.{◌≡◌, ap, sym, ◌∙◌, length}
-use Rattle.delta_codec.specs.declared.message.Message.{Message}
 use Rattle.delta_codec.specs.Short.{message_of}
-use Rattle.delta_codec.specs.Spelling.{spelling}
 use Rattle.delta_codec.proofs.Starts.{no_other}
 use Rattle.delta_codec.proofs.decoding.decode_short.Goals as goal
 

@@ -1,7 +1,6 @@
-use Rattle.std.proofs.Common.{sym, ◌∙◌, arith}
-use Rattle.std.proofs.lemmas.Result.{err_from_is_err_and}
+use Rattle.std.proofs.Common.{sym}
 use Rattle.delta_codec.specs.Short.{message_of}
-use Rattle.delta_codec.proofs.Starts.{begun_sound, rows_next, start_stops, with_rows}
+use Rattle.delta_codec.proofs.Starts.{begun_sound, with_rows}
 use Rattle.delta_codec.proofs.decoding.read_message.Goals as goal
 
 pub returns-in-Short-Table-default-clause-fault : goal.returns-in-Short-Table-default-clause-fault
