@@ -11,3 +11,4 @@ pub mod Sound
 pub mod Same
 pub mod Prefixes
 pub mod Decoded
+pub mod Starts

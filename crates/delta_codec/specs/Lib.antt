@@ -6,3 +6,4 @@ pub mod Fields
 pub mod Refusals
 pub mod Laws
 pub mod Deltas
+pub mod Short

@@ -1,4 +1,4 @@
-//! The body of a table message: a group's record.
+//! The parts of the body of a table message: pairs, and rows after their number.
 
 ghost use Rattle.std.specs.Prelude.{◌≡◌, ◌+◌, ◌*◌, ◌≤◌, [], ◌∷◌, All, IfOk, None, length, option_map};
 ghost use Rattle.std.specs.List.{flat_map};
@@ -6,50 +6,24 @@ ghost use Rattle.std.specs.Result.{result_err};
 ghost use Rattle.flow_types.specs.Key.{number};
 ghost use Rattle.flow_types.specs.Size.{value_bits};
 ghost use Rattle.group_search.specs.Words.{IsPair};
-ghost use Rattle.delta_codec.specs.Values.{IsContent, IsKeyValue};
-ghost use Rattle.delta_codec.specs.Fits.{ContentFits, RowsFit};
-ghost use Rattle.delta_codec.specs.Spelling.{Stand, content_octets, pair_octets, row_octets};
-ghost use Rattle.delta_codec.specs.Fields.{content_fields, count_field, field_fault, first_fault, key_number_at, byte_at, pair_fields, row_fields};
+ghost use Rattle.delta_codec.specs.Values.{IsKeyValue};
+ghost use Rattle.delta_codec.specs.Fits.{RowsFit};
+ghost use Rattle.delta_codec.specs.Spelling.{Stand, pair_octets, row_octets};
+ghost use Rattle.delta_codec.specs.Fields.{count_field, field_fault, first_fault, key_number_at, byte_at, pair_fields, row_fields};
 ghost use Rattle.delta_codec.specs.Fields as fields;
 
 use crate::reading::{take_key, take_octet, take_two};
 use crate::refused::{BadField, DecodeRefused};
 use arrayvec::ArrayVec;
 use flow_types::{FlowKey, Shape};
-use group_search::{GroupRecord, MOST_BITS, MOST_ROWS, Pair, Row, Rows, Served};
+use group_search::{MOST_BITS, MOST_ROWS, Pair, Row, Rows, Served};
 
-/// The record that stands at a place, and the place after it.
-pub(crate) fn read_content(
+/// A pair for each value bit of the shape.
+pub(crate) fn read_pairs(
     shape: Shape,
     bytes: &[u8],
     at: usize,
-) -> Result<(GroupRecord, usize), DecodeRefused>
-    requires { at ≤ length bytes.now }
-    ensures stands { IfOk result (λ read. Stand bytes.now at (content_octets read.0)) }
-    ensures end { IfOk result (λ read. read.1 ≡ at + length (content_octets read.0)) }
-    ensures fits { IfOk result (λ read. ContentFits shape read.0) }
-    ensures sized { IfOk result (λ read. IsContent read.0) }
-    ensures fault { result_err result ≡ first_fault bytes.now (content_fields shape bytes.now at) }
-{
-    match take_octet(bytes, at)? {
-        0 => {
-            let (served, end) = read_pairs(shape, bytes, at + 1)?;
-            Ok((GroupRecord::Served(served), end))
-        }
-        1 => {
-            let count = read_count(bytes, at + 1)?;
-            let (rows, end) = read_rows(shape, count, bytes, at + 2)?;
-            Ok((GroupRecord::Fallback(rows), end))
-        }
-        _ => Err(DecodeRefused::Bad {
-            at,
-            why: BadField::Body,
-        }),
-    }
-}
-
-/// A pair for each value bit of the shape.
-fn read_pairs(shape: Shape, bytes: &[u8], at: usize) -> Result<(Served, usize), DecodeRefused>
+) -> Result<(Served, usize), DecodeRefused>
     requires { at ≤ length bytes.now }
     ensures stands { IfOk result (λ read. Stand bytes.now at (flat_map pair_octets read.0)) }
     ensures end { IfOk result (λ read. read.1 ≡ at + 3 * length read.0) }
@@ -79,7 +53,7 @@ fn read_pair(bytes: &[u8], at: usize) -> Result<Pair, DecodeRefused>
 }
 
 /// The number of rows.
-fn read_count(bytes: &[u8], at: usize) -> Result<u8, DecodeRefused>
+pub(crate) fn read_count(bytes: &[u8], at: usize) -> Result<u8, DecodeRefused>
     requires { at ≤ length bytes.now }
     ensures value { IfOk result (λ count. count ≡ byte_at bytes.now at) }
     ensures stands { IfOk result (λ count. Stand bytes.now at (count ∷ [])) }
@@ -98,7 +72,7 @@ fn read_count(bytes: &[u8], at: usize) -> Result<u8, DecodeRefused>
 }
 
 /// So many rows, and the place after them.
-fn read_rows(
+pub(crate) fn read_rows(
     shape: Shape,
     count: u8,
     bytes: &[u8],

@@ -18,11 +18,12 @@ mod message;
 mod operation;
 mod reading;
 mod refused;
+mod starting;
 #[cfg(test)]
 mod tests;
 
-pub use decoding::decode;
-pub use encoding::encode;
+pub use decoding::{decode, decode_short};
+pub use encoding::{encode, encode_short};
 pub use fitting::fits;
-pub use message::{FibMessage, FibOp, Message, TableMessage};
+pub use message::{FibMessage, FibOp, Message, ServedMessage, ShortMessage, TableMessage};
 pub use refused::{BadField, DecodeRefused};

@@ -1,5 +1,5 @@
 use flow_types::{FlowKey, Record};
-use group_search::GroupRecord;
+use group_search::{GroupRecord, Served};
 
 /// The new record of a group, for a node's table.
 #[derive(Clone, Debug, PartialEq, Eq, Drop)]
@@ -47,6 +47,30 @@ pub struct FibMessage {
 pub enum Message {
     /// For the node's table.
     Table(TableMessage),
+    /// For the node's FIB.
+    Fib(FibMessage),
+}
+
+/// A served record of a group, for a node's table.
+#[derive(Clone, Copy, Debug, PartialEq, Eq, Hash)]
+pub struct ServedMessage {
+    /// The node that owns the group's block.
+    pub owner: u8,
+    /// The owner's turn, counted from 1. At most 65,535 fit.
+    pub turn: u32,
+    /// The block.
+    pub block: u16,
+    /// The group, below 64.
+    pub group: u8,
+    /// The pairs that serve the group.
+    pub served: Served,
+}
+
+/// A message without rows, in a value that has no room for them.
+#[derive(Clone, Copy, Debug, PartialEq, Eq, Hash)]
+pub enum ShortMessage {
+    /// For the node's table.
+    Table(ServedMessage),
     /// For the node's FIB.
     Fib(FibMessage),
 }

@@ -40,7 +40,17 @@ fn a_served_record(rt: HostRuntime) -> Result<(), Fail> {
     });
     assert!(rt; fits(shape, &message));
     assert_eq!(rt; encode(shape, &message).as_slice(), SERVED.as_slice());
+    let octets = encode_short(shape, &message).ok_or("no rows")?;
+    assert_eq!(rt; octets.as_slice(), SERVED.as_slice());
     assert_eq!(rt; decode(shape, &SERVED), Ok((message, 14)));
+    let short = ShortMessage::Table(ServedMessage {
+        owner: 0,
+        turn: 1,
+        block: 0,
+        group: 5,
+        served: Served { bits: 2, pairs },
+    });
+    assert_eq!(rt; decode_short(shape, &SERVED), Ok(Some((short, 14))));
     for len in 0..SERVED.len() {
         let refused = decode(shape, &SERVED[..len]);
         assert_eq!(rt; refused, Err(DecodeRefused::Short), "{len} octets");
@@ -65,6 +75,8 @@ fn a_record_of_rows(rt: HostRuntime) -> Result<(), Fail> {
     });
     assert!(rt; fits(shape, &message));
     assert_eq!(rt; encode(shape, &message).as_slice(), ROWS.as_slice());
+    assert!(rt; encode_short(shape, &message).is_none());
+    assert_eq!(rt; decode_short(shape, &ROWS), Ok(None));
     assert_eq!(rt; decode(shape, &ROWS), Ok((message, 37)));
 
     let mut one_key = ROWS;
@@ -91,15 +103,20 @@ fn a_key_with_its_record(rt: HostRuntime) -> Result<(), Fail> {
         teid: 305_419_896,
         base: 0xC0A8_0009,
     };
-    let message = Message::Fib(FibMessage {
+    let fib = FibMessage {
         owner: 1,
         turn: 513,
         block: 5,
         group: 63,
         op: FibOp::Put(KEY, info),
-    });
+    };
+    let message = Message::Fib(fib);
     assert!(rt; fits(shape, &message));
     assert_eq!(rt; encode(shape, &message).as_slice(), PUT.as_slice());
+    let octets = encode_short(shape, &message).ok_or("no rows")?;
+    assert_eq!(rt; octets.as_slice(), PUT.as_slice());
+    let short = ShortMessage::Fib(fib);
+    assert_eq!(rt; decode_short(shape, &PUT), Ok(Some((short, 29))));
     assert_eq!(rt; decode(shape, &PUT), Ok((message, 29)));
     assert_eq!(rt; decode(shape, &PUT[..20]), Err(DecodeRefused::Short));
 

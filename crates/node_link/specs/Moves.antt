@@ -1,5 +1,5 @@
 -- What a push and a pop make of what a pass knows.
-use Rattle.std.specs.Prelude.{ℕ, ◌≡◌, true, List, [], ◌∷◌, ◌++◌}
+use Rattle.std.specs.Prelude.{ℕ, ◌≡◌, true, List, [], ◌∷◌, ◌++◌, Option, None, Some}
 use Rattle.smallvec.specs.SmallVec.{SmallVec}
 use Rattle.delta_codec.specs.declared.message.Message.{Message}
 use Rattle.delta_codec.specs.Fits.{Fits}
@@ -30,16 +30,21 @@ pub record HasTaken (before : Log) (letter : SmallVec ℕ) (after : Log) : Type 
 abbrev pub AllIsTaken : Log → List (SmallVec ℕ) → Type 0
 AllIsTaken log letters = log.sends ≡ true → log.takes ≡ true → letters ≡ [] → log.taken ≡ log.sent
 
--- a pop took this message, which is then the last that was taken and fits the shape; or it found the queue empty, so that who
--- may send, too, knows that all that was sent was taken. In both cases what was taken is a beginning of what was sent
+-- a pop took these octets, or found the queue empty, so that who may send, too, knows that all that was sent was taken
+pub record PopsNothing (before after : Log) : Type 0 where
+  pub taken : after.taken ≡ before.taken
+  pub was_sent : before.sends ≡ true → before.taken ≡ before.sent
+
+abbrev pub PopsLetter : (before : Log) → Option (SmallVec ℕ) → (after : Log) → Type 0
+PopsLetter before (Some letter) after = HasTaken before letter after
+PopsLetter before None after = PopsNothing before after
+
+-- a pop took this message, which is then the last that was taken and fits the shape; or it found the queue empty. In both
+-- cases what was taken is a beginning of what was sent
 pub record PopsItem (before : Log) (message : Message) (after : Log) : Type 0 where
   pub fits : Fits before.shape message
   pub taken : after.taken ≡ before.taken ++ message ∷ []
   pub was_sent : before.sends ≡ true → IsBeginning after.taken before.sent
-
-pub record PopsNothing (before after : Log) : Type 0 where
-  pub taken : after.taken ≡ before.taken
-  pub was_sent : before.sends ≡ true → before.taken ≡ before.sent
 
 abbrev pub Pops : (before : Log) → Taken → (after : Log) → Type 0
 Pops before (Item message) after = PopsItem before message after

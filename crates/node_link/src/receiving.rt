@@ -1,12 +1,12 @@
 //! How a message is taken.
 
 ghost use Rattle.std.specs.Prelude.{◌≡◌, IfOk, IsOk, true};
+ghost use Rattle.node_link.specs.declared.rule.Log.{Log};
 ghost use Rattle.node_link.specs.Ends.{IsPort, TakesNext};
-ghost use Rattle.node_link.specs.Moves.{Pops};
-ghost use Rattle.node_link.specs.Rule.{taker_log};
+ghost use Rattle.node_link.specs.Moves.{Pops, PopsLetter};
 
 use crate::ends::TakeEnd;
-use crate::letter::read;
+use crate::letter::{Letter, read};
 use crate::rule::{Port, Queue, Takes};
 use crate::taken::Taken;
 use flow_types::Shape;
@@ -26,18 +26,26 @@ pub fn receive<R: Wait>(rt: &R, end: &mut TakeEnd, shape: Shape) -> Result<Taken
     let Some(port) = &mut end.port else {
         unreachable!()
     };
-    Ok(pop(rt, &end.line.queue, port, shape))
+    answer(shape, pop(rt, &end.line.queue, port))
 }
 
 /// One pop, by a pass that may take.
-pub(crate) fn pop<R: Wait>(rt: &R, queue: &Queue, port: &mut Port, shape: Shape) -> Taken
-    requires shape { port.old.me.view.client.shape ≡ shape }
+pub(crate) fn pop<R: Wait>(rt: &R, queue: &Queue, port: &mut Port) -> Option<Letter>
     requires port { IsPort queue.now port.old (record port.old.me.view.client { takes = true }) }
     ensures port { IsPort queue.now port.new (record port.old.me.view.client { taken = port.new.me.view.client.taken }) }
-    ensures popped { Pops port.old.me.view.client result port.new.me.view.client }
+    ensures popped { PopsLetter port.old.me.view.client result port.new.me.view.client }
 {
-    match queue.pop_as::<Takes, R>(rt, port) {
-        Some(letter) => Taken::Item(read(shape, &letter)),
-        None => Taken::Empty,
+    queue.pop_as::<Takes, R>(rt, port)
+}
+
+/// The answer with the message of what was popped.
+pub(crate) fn answer(shape: Shape, letter: Option<Letter>) -> Result<Taken, OutOfMemory>
+    requires { (before : Log) × (after : Log) × (before.shape ≡ shape) × PopsLetter before letter after }
+    ensures no_memory { IsOk result }
+    ensures popped { (before after : Log) → before.shape ≡ shape → PopsLetter before letter after → IfOk result (λ taken. Pops before taken after) }
+{
+    match letter {
+        Some(letter) => read(shape, letter),
+        None => Ok(Taken::Empty),
     }
 }

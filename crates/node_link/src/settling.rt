@@ -3,11 +3,12 @@
 ghost use Rattle.std.specs.Prelude.{◌≡◌, IfOk, IsOk, Ok};
 ghost use Rattle.node_link.specs.declared.taken.Taken.TheVariants.{Empty};
 ghost use Rattle.node_link.specs.Ends.{IsPort, TakesNext};
-ghost use Rattle.node_link.specs.Moves.{IsBeginning, Pops};
+ghost use Rattle.node_link.specs.Moves.{IsBeginning, PopsLetter};
 ghost use Rattle.node_link.specs.Rule.{full_log, sender_log, taker_log};
 
 use crate::ends::{SendEnd, TakeEnd};
-use crate::receiving::pop;
+use crate::letter::Letter;
+use crate::receiving::{answer, pop};
 use crate::rule::{Parts, Port, Queue};
 use crate::taken::Taken;
 use flow_types::Shape;
@@ -38,10 +39,10 @@ pub fn settle<R: Wait>(
     let (Some(mine), Some(theirs)) = (taker.port.take(), sender.port.take()) else {
         unreachable!()
     };
-    let (mine, theirs, taken) = settle_at(rt, &taker.line.queue, mine, theirs, shape);
+    let (mine, theirs, letter) = settle_at(rt, &taker.line.queue, mine, theirs);
     taker.port = Some(mine);
     sender.port = Some(theirs);
-    Ok(taken)
+    answer(shape, letter)
 }
 
 /// One pop with both ends' passes, which are one for the time of it.
@@ -50,17 +51,16 @@ fn settle_at<R: Wait>(
     queue: &Queue,
     taker: Port,
     sender: Port,
-    shape: Shape,
-) -> (Port, Port, Taken)
-    requires taker { IsPort queue.now taker (taker_log shape taker.me.view.client.taken) }
-    requires sender { IsPort queue.now sender (sender_log shape sender.me.view.client.sent) }
-    ensures taker { IsPort queue.now result.0 (taker_log shape result.0.me.view.client.taken) }
-    ensures sender { IsPort queue.now result.1 (sender_log shape sender.me.view.client.sent) }
-    ensures popped { Pops (full_log shape sender.me.view.client.sent taker.me.view.client.taken) result.2 (full_log shape sender.me.view.client.sent result.0.me.view.client.taken) }
+) -> (Port, Port, Option<Letter>)
+    requires taker { IsPort queue.now taker (taker_log taker.me.view.client.shape taker.me.view.client.taken) }
+    requires sender { IsPort queue.now sender (sender_log taker.me.view.client.shape sender.me.view.client.sent) }
+    ensures taker { IsPort queue.now result.0 (taker_log taker.me.view.client.shape result.0.me.view.client.taken) }
+    ensures sender { IsPort queue.now result.1 (sender_log taker.me.view.client.shape sender.me.view.client.sent) }
+    ensures popped { PopsLetter (full_log taker.me.view.client.shape sender.me.view.client.sent taker.me.view.client.taken) result.2 (full_log taker.me.view.client.shape sender.me.view.client.sent result.0.me.view.client.taken) }
 {
     let mut taker = taker;
     queue.absorb::<Parts>(&mut taker, sender);
-    let taken = pop(rt, queue, &mut taker, shape);
+    let letter = pop(rt, queue, &mut taker);
     let sender = queue.another::<Parts>(&mut taker);
-    (taker, sender, taken)
+    (taker, sender, letter)
 }

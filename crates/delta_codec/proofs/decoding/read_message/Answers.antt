@@ -1,36 +1,21 @@
-use Rattle.std.proofs.Common.{sym, arith}
-use Rattle.std.proofs.lemmas.Result.{err_from_is_err_and}
-use Rattle.delta_codec.specs.declared.message.Message.TheVariants.{Table, Fib}
-use Rattle.delta_codec.specs.Fields.{head_fields}
-use Rattle.delta_codec.specs.Spelling.{head, content_octets, operation_octets}
-use Rattle.delta_codec.proofs.Begins.{begins}
-use Rattle.delta_codec.proofs.Faults.{fault_before}
-use Rattle.delta_codec.proofs.Standing.{Stand-append}
+use Rattle.std.proofs.Common.{sym}
+use Rattle.delta_codec.specs.Short.{message_of}
+use Rattle.delta_codec.proofs.Starts.{begun_sound, with_rows}
 use Rattle.delta_codec.proofs.decoding.read_message.Goals as goal
 
-pub returns-in_err-head-clause-fault : goal.returns-in_err-head-clause-fault
-returns-in_err-head-clause-fault c =
-    let p = err_from_is_err_and c.from_residual.result c.from_residual.ensures.1 in
-    rw (p.1, p.2) (sym (fault_before c.args.bytes.now (head_fields c.args.shape c.args.bytes.now) _ _ (sym c.in_err-head.ensures.fault)))
+pub returns-in-Short-Table-default-clause-fault : goal.returns-in-Short-Table-default-clause-fault
+returns-in-Short-Table-default-clause-fault c =
+    let starts = rw (c.in-Short-Table-default.is) at c.in_ok-table.ensures.starts in
+    sym (begun_sound c.args.shape c.args.bytes.now (message_of c.in-Short-Table-default.field-0) c.in-Short-Table-default.used starts.0 starts.1)
 
-pub returns-in_ok-content-in-Table-clause-spelled : goal.returns-in_ok-content-in-Table-clause-spelled
-returns-in_ok-content-in-Table-clause-spelled c =
-    let bytes = c.args.bytes.now in
-    let h = c.in_ok-head.head in
-    let content = c.in_ok-content-in-Table.content in
-    let stands = rw (c.in-Table.is) at c.in_ok-head.ensures.stands in
-    let whole = Stand-append bytes 0 7 (head 0x11 h.owner h.turn h.block h.group) (content_octets content) (omega arith) stands c.in_ok-content-in-Table.ensures.stands in
-    rw (c.from-turn.ensures)
-    (begins c.args.shape bytes (Table (record { owner = h.owner; turn = h.turn; block = h.block; group = h.group; content = content })) c.in_ok-content-in-Table.used
-    (c.in_ok-head.ensures.fits, c.in_ok-content-in-Table.ensures.fits) whole (omega (arith, c.in_ok-content-in-Table.ensures.end)))
+pub returns-in-Short-Fib-default-clause-fault : goal.returns-in-Short-Fib-default-clause-fault
+returns-in-Short-Fib-default-clause-fault c =
+    let starts = rw (c.in-Short-Fib-default.is) at c.in_ok-table.ensures.starts in
+    sym (begun_sound c.args.shape c.args.bytes.now (message_of c.in-Short-Fib-default.field-0) c.in-Short-Fib-default.used starts.0 starts.1)
 
-pub returns-in_ok-op-in-Fib-clause-spelled : goal.returns-in_ok-op-in-Fib-clause-spelled
-returns-in_ok-op-in-Fib-clause-spelled c =
-    let bytes = c.args.bytes.now in
-    let h = c.in_ok-head.head in
-    let op = c.in_ok-op-in-Fib.op in
-    let stands = rw (c.in-Fib.is) at c.in_ok-head.ensures.stands in
-    let whole = Stand-append bytes 0 7 (head 0x12 h.owner h.turn h.block h.group) (operation_octets op) (omega arith) stands c.in_ok-op-in-Fib.ensures.stands in
-    rw (c.from-turn.ensures)
-    (begins c.args.shape bytes (Fib (record { owner = h.owner; turn = h.turn; block = h.block; group = h.group; op = op })) c.in_ok-op-in-Fib.used
-    c.in_ok-head.ensures.fits whole (omega (arith, c.in_ok-op-in-Fib.ensures.end)))
+pub returns-in_ok-rows-in-Rows-clause-spelled : goal.returns-in_ok-rows-in-Rows-clause-spelled
+returns-in_ok-rows-in-Rows-clause-spelled c =
+    let starts = rw (c.in-Rows.is) at c.in_ok-table.ensures.starts in
+    let read = c.in_ok-rows-in-Rows.ensures in
+    rw (c.from.ensures)
+    (with_rows c.args.shape c.args.bytes.now c.in-Rows.head c.in-Rows.count c.in_ok-rows-in-Rows.used c.in_ok-rows-in-Rows.rows starts read.stands read.counted read.fits read.end)

@@ -7,6 +7,6 @@ absorb-requires-clause-rule g c = joined _ _ _ _ (ap (λ log. log.takes) c.requi
 
 pub another-sender-requires-clause-rule : goal.another-sender-requires-clause-rule
 another-sender-requires-clause-rule g c =
-    let held = c.pop-taken.ensures.port.knows in
+    let held = c.pop-letter.ensures.port.knows in
     let joins = c.absorb.ensures.rule in
     parts _ _ (ap (λ log. log.sends) held ∙ ap (λ log. log.sends) joins) (ap (λ log. log.takes) held ∙ ap (λ log. log.takes) joins)
