@@ -1,6 +1,7 @@
 pub mod KeyRanges
 pub mod FirstBadFacts
 pub mod RunFacts
+pub mod ReadFacts
 pub mod Numbered
 pub mod NodeFacts
 pub mod Turns

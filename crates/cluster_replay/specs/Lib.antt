@@ -1,5 +1,6 @@
 pub mod Limits
 pub mod Outcome
+pub mod Reading
 pub mod Seen
 pub mod FirstBad
 pub mod Headline

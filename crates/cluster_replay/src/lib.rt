@@ -17,6 +17,7 @@ mod fault;
 mod law;
 mod node;
 mod opening;
+mod reading;
 mod replaying;
 mod table;
 
@@ -26,7 +27,7 @@ pub use law::{first_bad_row_law, openings_can_be_opened, replays_are_runs};
 pub use opening::open;
 pub use packet_reader::{Event, Part};
 pub use replay_model::Reply;
-pub use replaying::{Replayed, answer_rows, replay};
+pub use replaying::{Replayed, answer_rows, replay, replay_vec};
 pub use run_report::report;
 
 #[cfg(test)]

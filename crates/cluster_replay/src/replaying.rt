@@ -1,4 +1,4 @@
-ghost use Rattle.std.specs.Prelude.{◌≡◌, ◌+◌, ◌<◌, ◌≤◌, ◌^◌, IfOk, length};
+ghost use Rattle.std.specs.Prelude.{◌≡◌, ◌+◌, ◌<◌, ◌≤◌, ◌^◌, ℕ, List, IfOk, length};
 ghost use Rattle.out_of_memory.specs.Answer.{Answers};
 ghost use Rattle.csv_rows.specs.Rows.{rows};
 ghost use Rattle.flow_types.specs.Input.{most_octets};
@@ -6,15 +6,15 @@ ghost use Rattle.packet_reader.specs.declared.mode.Mode.TheVariants.{Replay};
 ghost use Rattle.run_report.specs.Report.{AreOfTheirEvents};
 ghost use Rattle.cluster_replay.specs.Limits.{named_fault};
 ghost use Rattle.cluster_replay.specs.Outcome.{outcome, outcome_by, replay_replies};
+ghost use Rattle.cluster_replay.specs.Reading.{IsReadFrom};
 ghost use Rattle.cluster_replay.specs.Seen.{said};
 ghost use Rattle.cluster_replay.specs.Headline.{IsRunOf};
 
 use crate::answering::replies;
 use crate::fault::InputFault;
 use crate::opening::open;
-use csv_rows::RowReader;
-use flow_reader::read_opening_from;
-use packet_reader::{Event, Mode, read_script_from};
+use crate::reading::{InputRows, read_rows, read_vec};
+use packet_reader::Event;
 use replay_model::Reply;
 use run_report::report;
 use std::alloc::Global;
@@ -46,14 +46,32 @@ pub fn replay<R: Threads + Sync>(
     ensures answers { Answers (λ text. text.items) named_fault (outcome bytes.now) result }
     ensures run { IfOk result (λ text. IsRunOf Replay 1 bytes.now text.items) }
 {
-    match answer_rows(rt, alloc, bytes, workers) {
-        Ok(made) => Ok(report(alloc, made.script.as_slice(), made.replies.as_slice())?),
+    match read_rows(alloc, bytes) {
+        Ok(input) => print_input(rt, alloc, input, workers),
+        Err(fault) => Err(fault),
+    }
+}
+
+/// What `replay` answers for the octets, which are freed once they are read: before the table is built.
+pub fn replay_vec<R: Threads + Sync>(
+    rt: &R,
+    alloc: Global,
+    bytes: Vec<u8>,
+    workers: u8,
+) -> Result<Vec<u8>, InputFault>
+    requires some_worker { 1 ≤ workers }
+    requires few_workers { workers ≤ 64 }
+    requires limit { length bytes.items ≤ most_octets }
+    ensures answers { Answers (λ text. text.items) named_fault (outcome bytes.items) result }
+    ensures run { IfOk result (λ text. IsRunOf Replay 1 bytes.items text.items) }
+{
+    match read_vec(alloc, bytes) {
+        Ok(input) => print_input(rt, alloc, input, workers),
         Err(fault) => Err(fault),
     }
 }
 
 /// The events of an input and the replies to them, as `replay` prints them, with its faults.
-#[tactic(auto, unfolding(crate::specs::Outcome::outcome_by))]
 pub fn answer_rows<R: Threads + Sync>(
     rt: &R,
     alloc: Global,
@@ -67,21 +85,57 @@ pub fn answer_rows<R: Threads + Sync>(
     ensures fit { IfOk result (λ made. AreOfTheirEvents made.script.items made.replies.items) }
     ensures counted { IfOk result (λ made. made.row_count ≡ length (rows bytes.now)) }
 {
-    let mut reader = RowReader::new(alloc, bytes);
-    let opening = read_opening_from(alloc, &mut reader)?;
-    let script = read_script_from(
-        alloc,
-        &mut reader,
-        opening.begin_row,
-        opening.shape,
-        Mode::Replay,
-    )?;
+    match read_rows(alloc, bytes) {
+        Ok(input) => answer_input(rt, alloc, input, workers),
+        Err(fault) => Err(fault),
+    }
+}
+
+/// The printed run of an input that was read.
+fn print_input<R: Threads + Sync>(
+    rt: &R,
+    alloc: Global,
+    input: InputRows,
+    workers: u8,
+) -> Result<Vec<u8>, InputFault>
+    requires some_worker { 1 ≤ workers }
+    requires few_workers { workers ≤ 64 }
+    requires read { (octets : List ℕ) × IsReadFrom octets input.opening input.script.items }
+    ensures answers { (octets : List ℕ) → IsReadFrom octets input.opening input.script.items →
+        Answers (λ text. text.items) named_fault (outcome octets) result }
+    ensures run { (octets : List ℕ) → IsReadFrom octets input.opening input.script.items →
+        IfOk result (λ text. IsRunOf Replay 1 octets text.items) }
+{
+    match answer_input(rt, alloc, input, workers) {
+        Ok(made) => Ok(report(alloc, made.script.as_slice(), made.replies.as_slice())?),
+        Err(fault) => Err(fault),
+    }
+}
+
+/// The replies to the script of an input that was read. The flows of its opening are freed before the first.
+fn answer_input<R: Threads + Sync>(
+    rt: &R,
+    alloc: Global,
+    input: InputRows,
+    workers: u8,
+) -> Result<Replayed, InputFault>
+    requires some_worker { 1 ≤ workers }
+    requires few_workers { workers ≤ 64 }
+    requires read { (octets : List ℕ) × IsReadFrom octets input.opening input.script.items }
+    ensures answers { (octets : List ℕ) → IsReadFrom octets input.opening input.script.items →
+        Answers said named_fault (outcome_by replay_replies octets) result }
+    ensures fit { IfOk result (λ made. AreOfTheirEvents made.script.items made.replies.items) }
+    ensures counted { IfOk result (λ made. (octets : List ℕ) → IsReadFrom octets input.opening input.script.items →
+        made.row_count ≡ length (rows octets)) }
+{
+    let InputRows { opening, script } = input;
     let mut cluster = match open(rt, alloc, &opening, workers) {
         Ok(cluster) => cluster,
         Err(fault) => return Err(fault),
     };
-    let replies = replies(alloc, &mut cluster, script.as_slice())?;
     let row_count = row_count(opening.begin_row, script.len());
+    drop(opening);
+    let replies = replies(alloc, &mut cluster, script.as_slice())?;
     Ok(Replayed {
         script,
         replies,

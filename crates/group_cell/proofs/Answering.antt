@@ -182,11 +182,11 @@ served_is bits nodes words key found result few served (Fallback rows) h give = 
 -- the same of words that the writer loaded
 pub own_node : (r opening : Opened) (size : Size) (ps : List Publication) (ws : List ℕ) (at : Home) (version : ℕ) (words : List ℕ) (key : FlowKey) (found result : Option ℕ)
     → r ≡ opening → opening.size ≡ size → version ≡ count ps at → Holds (bits_of r) ws at (latest r ps at) → length words ≡ 2
-    → ((j : ℕ) → j < 2 → get_or words j 0 ≡ datum ws at j) → StandsFound ws at 64 key found
+    → ((j : ℕ) → j < 2 → get_or words j 0 ≡ datum ws at j) → (2 ^ 48 ≤ get_or words 0 0 → StandsFound ws at 64 key found)
     → ((c : GroupRecord) → PacksTo (value_bits size.nodes) (packed_of c) words → RowsGive c key found → result ≡ decode c size.nodes key)
     → result ≡ decode (record_at opening.images ps at version) opening.size.nodes key
 own_node r opening size ps ws at version words key found result one_opening one_size counted holds two each stands decoded =
     let at_opening = subst (λ (o : Opened). Holds (bits_of o) ws at (latest o ps at)) one_opening holds in
     let at_size = subst (λ (z : Size). Holds (value_bits z.nodes) ws at (latest opening ps at)) one_size at_opening in
-    own_answer (value_bits size.nodes) size.nodes ws at (latest opening ps at) words key found result at_size two each (λ _. stands) decoded
+    own_answer (value_bits size.nodes) size.nodes ws at (latest opening ps at) words key found result at_size two each stands decoded
     ∙ (λ i. decode (record_at opening.images ps at (sym counted i)) (sym one_size i).nodes key)

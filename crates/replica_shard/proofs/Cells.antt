@@ -74,6 +74,13 @@ module _ (size : Size) (owner : ℕ) (choices : List (List ℕ)) (cells : Opened
     image_is : image_in store block ≡ Some image
     image_is = rw (owned_block size owner block within owned) (slice_get-get_or cells.images (block / size.nodes) no_image block_low)
 
+    -- a block's choices stand at its place
+    pub choices_there : (none : List ℕ) → get_or choices (block / size.nodes) none ≡ choices_shown (image_in store block)
+    choices_there none =
+        ap (λ (all : List (List ℕ)). get_or all (block / size.nodes) none) are.choices_are
+        ∙ (get_or-map (λ (i : Image). i.choices) cells.images (block / size.nodes) no_image none block_low
+        ∙ ap choices_shown (sym image_is))
+
     module _ (group : ℕ) (low : group < 64) where
       abbrev at : Home
       at = record { block = block; group = group }

@@ -1,5 +1,6 @@
 pub mod Sums
 pub mod OwnedBlocks
+pub mod Shares
 pub mod Dealt
 pub mod Cells
 pub mod FreeRows

@@ -1,4 +1,4 @@
-ghost use Rattle.std.specs.Prelude.{◌≡◌, length};
+ghost use Rattle.std.specs.Prelude.{◌≡◌, ◌+◌, ◌/◌, length};
 ghost use Rattle.group_cell.specs.Opening.{HaveAllGroups};
 ghost use Rattle.group_cell.specs.Seats.{opened_with, published};
 ghost use Rattle.replica_shard.specs.Owners.{AreOwnersCells};
@@ -25,6 +25,9 @@ pub struct Shard {
     choices: Vec<Choices>,
     shape: Shape,
     owner: u8,
+    // 2^16 divided by the number of nodes, and 1 more.
+    share: u32,
+    ghost shared: { share ≡ 65536 / shape.nodes + 1 },
     ghost cells: { AreOwnersCells shape owner choices.items (opened_with table) },
     ghost full: { HaveAllGroups (opened_with table).images },
 }

@@ -15,7 +15,7 @@ ghost use Rattle.scalebricks.specs.Status.Status.{Done, InputRefused, NoMemory, 
 
 use crate::output::{Output, print_output, refused};
 use crate::status::{DONE, INPUT_LIMIT, OUT_OF_MEMORY, READ_FAULT, TOO_LARGE};
-use cluster_replay::replay;
+use cluster_replay::replay_vec;
 use out_of_memory::OutOfMemory;
 use sb_io::{ReadRefusal, Sink, Source, read_all};
 use std::alloc::Global;
@@ -68,7 +68,7 @@ pub fn replay_input<S: Source, K: Sink, R: Threads + Sync>(
         → (result ≡ code Done) ⊎ (result ≡ code NoMemory)) }
 {
     let made = match read_all(alloc, input, INPUT_LIMIT) {
-        Ok(bytes) => make_output(rt, alloc, &bytes, workers),
+        Ok(bytes) => make_output(rt, alloc, bytes, workers),
         Err(ReadRefusal::ReadFault) => return READ_FAULT,
         Err(ReadRefusal::TooLarge { limit: _ }) => return TOO_LARGE,
         Err(ReadRefusal::OutOfMemory) => return OUT_OF_MEMORY,
@@ -80,23 +80,23 @@ pub fn replay_input<S: Source, K: Sink, R: Threads + Sync>(
 }
 
 /// Makes what is printed for an input: its report, or the line of its first bad row or of the first block past a
-/// limit.
+/// limit. The input is freed once it is read.
 #[tactic(auto, using(crate::proofs::Named::named_refused))]
 fn make_output<R: Threads + Sync>(
     rt: &R,
     alloc: Global,
-    bytes: &[u8],
+    bytes: Vec<u8>,
     workers: u8,
 ) -> Result<Output, OutOfMemory>
     requires some_worker { 1 ≤ workers }
     requires few_workers { workers ≤ 64 }
-    requires limit { length bytes.now ≤ most_octets }
-    ensures text { IfOk result (λ made. made.text.items ≡ printed (outcome bytes.now)) }
-    ensures status { IfOk result (λ made. made.status ≡ outcome_status (outcome bytes.now)) }
-    ensures known { OnOk result (IsOk (outcome bytes.now) ⊎ IsRefused (outcome bytes.now)) }
-    ensures run { IfOk result (λ made. made.status ≡ code Done → IsRunOf Replay 1 bytes.now made.text.items) }
+    requires limit { length bytes.items ≤ most_octets }
+    ensures text { IfOk result (λ made. made.text.items ≡ printed (outcome bytes.items)) }
+    ensures status { IfOk result (λ made. made.status ≡ outcome_status (outcome bytes.items)) }
+    ensures known { OnOk result (IsOk (outcome bytes.items) ⊎ IsRefused (outcome bytes.items)) }
+    ensures run { IfOk result (λ made. made.status ≡ code Done → IsRunOf Replay 1 bytes.items made.text.items) }
 {
-    match replay(rt, alloc, bytes, workers) {
+    match replay_vec(rt, alloc, bytes, workers) {
         Ok(text) => Ok(Output { text, status: DONE }),
         Err(fault) => refused(alloc, fault),
     }

@@ -32,6 +32,7 @@ pub fn has_rows(word: u64) -> bool
 }
 
 /// The node that a record gives the key, by its data words and what was found in its rows.
+#[inline(always)]
 pub fn decoded(
     shape: Shape,
     words: [u64; DATA_WORDS],

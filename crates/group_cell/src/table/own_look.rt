@@ -1,5 +1,5 @@
 //! The writer's look at its own table.
-ghost use Rattle.std.specs.Prelude.{◌≡◌, ℕ, ◌+◌, ◌<◌, Option, length, slice_index};
+ghost use Rattle.std.specs.Prelude.{◌≡◌, ℕ, ◌+◌, ◌^◌, ◌<◌, ◌≤◌, Option, length, slice_index};
 ghost use Rattle.group_search.specs.Published.{count};
 ghost use Rattle.group_cell.specs.Layout.{home_of, high, datum, tag};
 ghost use Rattle.group_cell.specs.Rule.{IsIn, Stands};
@@ -9,7 +9,7 @@ ghost use Rattle.group_cell.specs.Seats.{IsWriterOf, node_at_version, opened_wit
 
 use crate::layout::{DATA_WORDS, PLACES, data_word, high_word, low_word, sequence_word};
 use crate::plays::{Ask, Place, Shelf};
-use crate::table::decoding::{decoded, node_in};
+use crate::table::decoding::{decoded, has_rows, node_in};
 use crate::table::{CellTable, Look, WriterSeat};
 use crate::view::Address;
 use flow_types::FlowKey;
@@ -75,22 +75,26 @@ fn probe(
     }
 }
 
-// Goes over the group's places.
+// Goes over the group's places, where the first data word is that of a record with rows.
 fn search(
     shelf: &Shelf,
     seat: &mut Place,
     owners: &[u8; PLACES],
     at: Address,
+    datum: u64,
     key: FlowKey,
 ) -> Option<u8>
     requires own { seat.old.table_id ≡ shelf.now.table_id }
     requires inside { IsAt shelf.now.table_id.words shelf.now.key.value (home_of at) }
     requires writes { IsWriter seat.old.me.0 }
     requires owners { AreOwners owners.now (words_of_seat seat.old) at.block }
-    ensures found { StandsFound (words_of_seat seat.old) (home_of at) 64 key result }
+    ensures found { 2 ^ 48 ≤ datum → StandsFound (words_of_seat seat.old) (home_of at) 64 key result }
     ensures same { IsSamePlace seat.old seat.new }
     ensures kept { seat.new.me ≡ seat.old.me }
 {
+    if !has_rows(datum) {
+        return None;
+    }
     let mut found = None;
     'places: for place in 0..PLACES {
         found = probe(shelf, seat, owners[place], at, place, key, found);
@@ -118,7 +122,7 @@ impl CellTable {
         let sequence = ask(shelf, &mut writer.seat, sequence_word(at));
         let words = ask_data(shelf, &mut writer.seat, at);
         let owners = &writer.owners[usize::from(block)];
-        let found = search(shelf, &mut writer.seat, owners, at, key);
+        let found = search(shelf, &mut writer.seat, owners, at, words[0], key);
         Look {
             version: (sequence / 2) as u32,
             node: decoded(self.shape, words, found, key),

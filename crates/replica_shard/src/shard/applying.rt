@@ -52,7 +52,7 @@ impl Shard {
         if message.turn > have + 1 {
             return Err(ShardRefused::Early { have });
         }
-        let block = message.block / self.shape.nodes();
+        let block = self.cell_block(message.block);
         let needed = message.content.rows();
         let free = self.table.room(&writer.seat, block, message.group);
         if needed > free {

@@ -48,11 +48,13 @@ impl Shard {
         let choices = Vec::from_slice(alloc, plan.choices.as_slice())?;
         let (table, seat) = CellTable::open_plan(alloc, &plan.cells)?;
         let (shape, owner) = (plan.shape, plan.owner);
+        let share = 65_536 / u32::from(shape.nodes()) + 1;
         let shard = Shard {
             table,
             choices,
             shape,
             owner,
+            share,
         };
         Ok((shard, ShardWriter { seat, taken: 0 }))
     }

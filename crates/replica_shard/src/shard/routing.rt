@@ -1,5 +1,5 @@
 //! Keys are sent to nodes.
-ghost use Rattle.std.specs.Prelude.{◌≡◌, ◌+◌, ◌*◌, ◌%◌, ◌<◌, List, IfErr, IfOk};
+ghost use Rattle.std.specs.Prelude.{◌≡◌, ◌+◌, ◌*◌, ◌/◌, ◌%◌, ◌<◌, List, IfErr, IfOk};
 ghost use Rattle.group_cell.specs.Rule.{IsIn};
 ghost use Rattle.group_cell.specs.Seats.{opened_with, the_group};
 ghost use Rattle.group_search.specs.Owned.{IsOwned};
@@ -14,6 +14,7 @@ ghost use Rattle.replica_shard.specs.Store.{shard_state_of};
 use crate::routing::Route;
 use crate::shard::{Shard, ShardReader, ShardWriter};
 use flow_types::FlowKey;
+use flow_types::laws::numbers_of_a_shape;
 use group_cell::{Changing, Look};
 use hash_family::{Place, place};
 
@@ -129,7 +130,16 @@ impl Shard {
         ensures inside { IsIn (opened_with self.now.table) (the_group result.0 result.1) }
         ensures cell { (list : List Publication) → the_group result.0 result.1 ≡ cell_of self.now.shape.nodes (home_in_state (shard_state_of (shard_at self.now list)) at) }
     {
-        let block = at.block / self.shape.nodes();
+        let block = self.cell_block(at.block);
         (block, self.choices[usize::from(block)].group(at.bucket))
+    }
+
+    /// The number among the owner's, counted from 0, of a block of the owner's. A product takes less time than a division.
+    pub(crate) fn cell_block(&self, block: u16) -> u16
+        requires { block < self.now.shape.blocks }
+        ensures { result ≡ block / self.now.shape.nodes }
+    {
+        numbers_of_a_shape(self.shape);
+        ((u32::from(block) * self.share) >> 16) as u16
     }
 }

@@ -1,27 +1,11 @@
-use Rattle.std.proofs.Common.{◌≡◌, ◌∙◌, List, ℕ, Ok, Result, ap, rules, sym}
+use Rattle.std.proofs.Common.{ℕ, List}
 use Rattle.run_report.specs.Report.{report}
-use Rattle.cluster_replay.specs.declared.fault.InputFault.{InputFault}
 use Rattle.cluster_replay.specs.Limits.{named_fault}
-use Rattle.cluster_replay.specs.Outcome.{Replies, outcome}
-use Rattle.cluster_replay.specs.Seen.{said}
-use Rattle.cluster_replay.proofs.RunFacts.{made_of_replies, named_of_replies, replay_runs}
+use Rattle.cluster_replay.specs.Outcome.{Replies}
+use Rattle.cluster_replay.proofs.RunFacts.{named_of_replies}
 use Rattle.cluster_replay.proofs.replaying.replay.Goals as goal
 
-abbrev printed : Replies → List ℕ
-printed r = report r.script r.replies
-
-pub returns-in_ok-report-in-Ok-clause-answers : goal.returns-in_ok-report-in-Ok-clause-answers
-returns-in_ok-report-in-Ok-clause-answers g c =
-    let prints : c.in_ok-report-in-Ok.field-0.items ≡ printed (said c.in-Ok.made) = search rules in
-    let with : List ℕ → Result (List ℕ) InputFault = λ text. Ok text in
-    made_of_replies printed c.args.bytes.now (said c.in-Ok.made) c.in-Ok.ensures.answers ∙ ap with (sym prints)
-
-pub returns-in_ok-report-in-Ok-clause-run : goal.returns-in_ok-report-in-Ok-clause-run
-returns-in_ok-report-in-Ok-clause-run g c =
-    let prints : c.in_ok-report-in-Ok.field-0.items ≡ printed (said c.in-Ok.made) = search rules in
-    let with : List ℕ → Result (List ℕ) InputFault = λ text. Ok text in
-    replay_runs c.args.bytes.now c.in_ok-report-in-Ok.field-0.items
-    (made_of_replies printed c.args.bytes.now (said c.in-Ok.made) c.in-Ok.ensures.answers ∙ ap with (sym prints))
-
 pub returns-in-Err-clause-answers : goal.returns-in-Err-clause-answers
-returns-in-Err-clause-answers g c = named_of_replies printed c.args.bytes.now (named_fault c.in-Err.fault) c.in-Err.ensures.answers
+returns-in-Err-clause-answers g c =
+    let printed : Replies → List ℕ = λ r. report r.script r.replies in
+    named_of_replies printed c.args.bytes.now (named_fault c.in-Err.fault) c.in-Err.ensures.refused

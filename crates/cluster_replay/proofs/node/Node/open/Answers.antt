@@ -1,6 +1,6 @@
-use Rattle.std.proofs.Common.{◌≡◌, [], ◌∙◌, ℕ, List, map, ap, rules}
+use Rattle.std.proofs.Common.{◌≡◌, [], ◌∙◌, ℕ, map, ap, rules}
 use Rattle.replica_shard.specs.Shard.{shard_after}
-use Rattle.replica_shard.specs.Store.{ShardStore, shard_state_of}
+use Rattle.replica_shard.specs.Store.{shard_state_of}
 use Rattle.cluster_replay.specs.Cluster.{NodeStore, by_number, node_state_of, owners_in}
 use Rattle.cluster_replay.proofs.Opened.{opened_node}
 use Rattle.cluster_replay.proofs.node.Node.open.Goals as goal

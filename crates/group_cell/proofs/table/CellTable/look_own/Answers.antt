@@ -32,4 +32,4 @@ returns-clause-node c = let w = writer_view c.args.writer.now.seat.me.0 in let a
     own_node w.opening (opened_with c.args.self.now) c.args.self.now.shape w.published w.words at (c.ask-sequence.result / 2) c.ask_data-words.result c.args.key c.search-found.result c.decoded.result
     c.requires.writer.one_opening c.args.self.now.shaped counted r.holds load.width
     (λ j two. load.found j two ∙ ap (λ (m : Me ℕ View). datum (writer_view m.0).words at j) ask.kept)
-    (subst (λ (m : Me ℕ View). StandsFound (writer_view m.0).words at 64 c.args.key c.search-found.result) (load.kept ∙ ask.kept) c.search-found.ensures.found) c.decoded.ensures
+    (λ many. subst (λ (m : Me ℕ View). StandsFound (writer_view m.0).words at 64 c.args.key c.search-found.result) (load.kept ∙ ask.kept) (c.search-found.ensures.found many)) c.decoded.ensures

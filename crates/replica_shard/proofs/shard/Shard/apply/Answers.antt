@@ -18,10 +18,9 @@ returns-then-needed-free-clause-rows_full c needed free =
     let shard = c.args.self.now in
     let ps = published c.args.writer.now.seat in
     let own : message.owner ≡ shard.owner = c.if-message-self.false in
-    let place : message.block / c.nodes.result ≡ message.block / shard.shape.nodes = ap (λ (n : ℕ). message.block / n) c.nodes.ensures.value in
     let free_is : c.room-free.result ≡ free_rows (shard_state_of (shard_taken shard c.args.writer.now)) message.block message.group =
     room_is_free shard.shape shard.owner shard.choices.items (opened_with shard.table) shard.cells shard.full ps message.block c.requires.fits.0.in_table (c.requires.fits.0.owned ∙ own)
-    message.group (message.block / c.nodes.result) c.room-free.result place c.room-free.ensures in
+    message.group c.cell_block-block.result c.room-free.result c.cell_block-block.ensures c.room-free.ensures in
     let have : c.args.writer.now.taken ≡ length (taken_list shard c.args.writer.now) =
     c.args.writer.now.counted ∙ sym (length-map ps (in_cluster shard.shape.nodes shard.owner)) in
     let next : message.turn ≡ length (taken_list shard c.args.writer.now) + 1 = omega (arith, c.if-message-have.false, c.if-message-have-2.false, have) in (
@@ -42,12 +41,12 @@ returns-clause-taken c =
     let ps = published c.args.writer.now.seat in
     let up : Publication → Publication = in_cluster shard.shape.nodes shard.owner in
     let own : message.owner ≡ shard.owner = c.if-message-self.false in
-    let block_is : shard.owner + shard.shape.nodes * (message.block / c.nodes.result) ≡ message.block =
-    ap (λ (n : ℕ). shard.owner + shard.shape.nodes * (message.block / n)) c.nodes.ensures.value
-    ∙ its_place shard.shape.nodes shard.owner message.block (omega (arith, c.nodes.ensures.least, c.nodes.ensures.value)) (c.requires.fits.0.owned ∙ own) in
+    let block_is : shard.owner + shard.shape.nodes * c.cell_block-block.result ≡ message.block =
+    ap (λ (n : ℕ). shard.owner + shard.shape.nodes * n) c.cell_block-block.ensures
+    ∙ its_place shard.shape.nodes shard.owner message.block (omega (arith, shard.cells.node)) (c.requires.fits.0.owned ∙ own) in
     let listed : map up (published c.publish.new.writer) ≡ taken_list shard c.args.writer.now ++ publication_of message ∷ [] =
     ap (map up) c.publish.ensures.published
-    ∙ map_push up ps (publication (the_group (message.block / c.nodes.result) message.group) message.content)
+    ∙ map_push up ps (publication (the_group c.cell_block-block.result message.group) message.content)
     ∙ ap (λ (block : ℕ). map up ps ++ (let p : Publication = record { block = block; group = message.group; content = message.content } in p) ∷ []) block_is in
     ap (λ (list : List Publication). shard_state_of (shard_at shard list)) listed ∙ with_one_more (shard_taken shard c.args.writer.now) message
 
@@ -57,10 +56,9 @@ returns-clause-rows_full c needed free =
     let shard = c.args.self.now in
     let ps = published c.args.writer.now.seat in
     let own : message.owner ≡ shard.owner = c.if-message-self.false in
-    let place : message.block / c.nodes.result ≡ message.block / shard.shape.nodes = ap (λ (n : ℕ). message.block / n) c.nodes.ensures.value in
     let free_is : c.room-free.result ≡ free_rows (shard_state_of (shard_taken shard c.args.writer.now)) message.block message.group =
     room_is_free shard.shape shard.owner shard.choices.items (opened_with shard.table) shard.cells shard.full ps message.block c.requires.fits.0.in_table (c.requires.fits.0.owned ∙ own)
-    message.group (message.block / c.nodes.result) c.room-free.result place c.room-free.ensures in (
+    message.group c.cell_block-block.result c.room-free.result c.cell_block-block.ensures c.room-free.ensures in (
       λ tells. cc,
       λ so.
           let needed_is : c.rows-needed.result ≡ needed = c.rows-needed.ensures ∙ sym so.2 in
