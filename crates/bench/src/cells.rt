@@ -7,6 +7,7 @@ ghost use Rattle.group_search.specs.Image.{Image};
 ghost use Rattle.group_search.specs.Words.{HasBits};
 ghost use Rattle.group_cell.specs.Seats.{IsReaderOf, IsWriterOf, opened_with, published};
 
+use crate::elapsed::since;
 use crate::keys::key;
 use block_layout::choose;
 use flow_types::Shape;
@@ -74,14 +75,6 @@ pub fn opened(alloc: Global) -> io::Result<Option<(CellTable, WriterSeat)>>
 pub fn tell(rt: &impl Print, name: &str, run: Run) -> io::Result<()> {
     let nanos = run.taken.as_nanos();
     println!(rt; "{name} {TIMES} {nanos} {} {}", run.changing, run.nodes)
-}
-
-/// How long it is since the start, or nothing where the clock can't be read.
-pub fn since(rt: &impl Clock, start: io::Result<Instant>) -> Duration {
-    let Ok(start) = start else {
-        return Duration::ZERO;
-    };
-    start.elapsed(rt).unwrap_or(Duration::ZERO)
 }
 
 /// Looks keys up in groups over the whole table.

@@ -3,7 +3,7 @@
 ghost use Rattle.std.specs.Prelude.{◌≡◌, ◌≤◌, ◌<◌, ◌+◌, IfOk, IfSome, All};
 ghost use Rattle.partial_fib.specs.Message.{FibMessageFits};
 
-use crate::cells::since;
+use crate::elapsed::since;
 use crate::keys::key;
 use delta_codec::{FibMessage, FibOp};
 use flow_types::{Record, Shape};

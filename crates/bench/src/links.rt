@@ -4,7 +4,7 @@ ghost use Rattle.std.specs.Prelude.{◌≡◌, ◌≤◌, IfOk};
 ghost use Rattle.delta_codec.specs.Fits.{Fits};
 ghost use Rattle.node_link.specs.Rule.{size_of};
 
-use crate::cells::since;
+use crate::elapsed::since;
 use crate::keys::key;
 use delta_codec::{FibMessage, FibOp, Message};
 use flow_types::{Record, Shape};

@@ -11,6 +11,7 @@ mod arena;
 mod building;
 mod cells;
 mod choosing;
+mod elapsed;
 mod fibs;
 mod keys;
 mod links;
