@@ -1,4 +1,4 @@
-ghost use Rattle.std.specs.Prelude.{◌≡◌, ◌≤◌, ◌<◌, [], length, IfOk};
+ghost use Rattle.std.specs.Prelude.{◌≡◌, ◌≤◌, ◌<◌, [], length, All, IfOk, IfSome};
 ghost use Rattle.partial_fib.specs.Ends.{IsLater};
 ghost use Rattle.partial_fib.specs.Message.{FibMessageFits};
 
@@ -13,6 +13,9 @@ use std::thread::{Threads, join_mut};
 
 /// How many turns the owner makes.
 const TURNS: u32 = 10_000;
+
+/// How many turns each put a key that has no record yet, so that the records grow.
+const GROWTH: u32 = 12;
 
 /// The FIB of node 3 and owner 1 at shape (4, 2), without a record.
 fn opened(alloc: Global) -> Result<Fib, Fail>
@@ -200,5 +203,105 @@ fn readers_in_threads_find_what_turns_say(rt: HostRuntime) -> Result<(), Fail> {
     assert_eq!(rt; done, TURNS);
     assert_eq!(rt; (wrong, others.0, others.1), (0, 0, 0));
     assert_eq!(rt; found, last);
+    Ok(())
+}
+
+/// The ends of a shared FIB without a record, and of one reader, or nothing for want of memory.
+fn ends<R: Wait>(rt: &R, alloc: Global) -> Option<(FibWriter, Vec<FibReader>)>
+    ensures writer { IfSome result (λ ends. ends.0.opening.size ≡ record { nodes = 4; blocks = 2 }) }
+    ensures readers { IfSome result (λ ends. All (λ reader. (reader.opening.size ≡ record { nodes = 4; blocks = 2 }) × (reader.opening.owner ≡ 1)) ends.1.items) }
+{
+    let shape = Shape::new(4, 2)?;
+    let fib = Fib::open(alloc, shape, 3, 1, &[]).ok()?;
+    match share(rt, alloc, fib, 1) {
+        Ok(ends) => Some(ends),
+        Err(_) => None,
+    }
+}
+
+/// The same, asked for again where memory was refused.
+fn ends_again<R: Wait>(rt: &R, alloc: Global) -> Option<(FibWriter, Vec<FibReader>)>
+    ensures writer { IfSome result (λ ends. ends.0.opening.size ≡ record { nodes = 4; blocks = 2 }) }
+    ensures readers { IfSome result (λ ends. All (λ reader. (reader.opening.size ≡ record { nodes = 4; blocks = 2 }) × (reader.opening.owner ≡ 1)) ends.1.items) }
+{
+    match ends(rt, alloc) {
+        Some(both) => Some(both),
+        None => ends(rt, alloc),
+    }
+}
+
+/// The owner's turn of a number, which puts the key of the group with its number.
+fn growing(number: u32) -> FibMessage
+    requires first { 1 ≤ number }
+    requires last { number < 64 }
+    ensures { FibMessageFits (record { nodes = 4; blocks = 2 }) result }
+{
+    let group = number as u8;
+    let info = Record {
+        teid: number,
+        base: 9,
+    };
+    FibMessage {
+        owner: 1,
+        turn: number,
+        block: 1,
+        group,
+        op: FibOp::Put(key_of(group), info),
+    }
+}
+
+/// Applies turns that each put a new key: how many were taken, if each turn after one for which memory was refused was
+/// refused in the same way, and no other was.
+fn grow<R: Wait>(rt: &R, writer: &mut FibWriter) -> Option<u32>
+    requires size { writer.old.opening.size ≡ record { nodes = 4; blocks = 2 } }
+    ensures opening { writer.new.opening ≡ writer.old.opening }
+{
+    let mut taken = 0u32;
+    'turns: for number in 0..GROWTH {
+        match writer.apply(rt, &growing(number + 1)) {
+            Ok(()) if taken == number => taken = number + 1,
+            Err(FibRefused::OutOfMemory) => (),
+            _ => return None,
+        }
+    }
+    Some(taken)
+}
+
+/// How many keys a reader finds other than the first so many turns say.
+fn count_wrong<R: Wait>(rt: &R, reader: &mut FibReader, taken: u32) -> u32
+    requires size { reader.old.opening.size ≡ record { nodes = 4; blocks = 2 } }
+    requires owner { reader.old.opening.owner ≡ 1 }
+{
+    let mut wrong = 0u32;
+    'turns: for number in 0..GROWTH {
+        let seen = finds(rt, reader, number as u8 + 1);
+        let there = number < taken;
+        if seen.answer.is_some() != there || seen.version != u32::from(there) {
+            wrong = wrong.saturating_add(1);
+        }
+    }
+    wrong
+}
+
+#[test]
+fn shows_what_it_showed_where_memory_is_refused(rt: HostRuntime) -> Result<(), Fail> {
+    let Some((mut writer, mut readers)) = ends_again(&rt, rt.alloc()) else {
+        return Err(Fail::from("memory"));
+    };
+    let Some(mut reader) = readers.pop() else {
+        writer.close(&rt);
+        return Err(Fail::from("a reader"));
+    };
+    let grown = grow(&rt, &mut writer);
+    let again = writer.apply(&rt, &growing(1));
+    let wrong = count_wrong(&rt, &mut reader, grown.unwrap_or(0));
+    writer.close(&rt);
+    let refused = match grown {
+        Some(GROWTH) => FibRefused::Repeat { have: GROWTH },
+        _ => FibRefused::OutOfMemory,
+    };
+    assert!(rt; grown.is_some(), "each turn, or want of memory");
+    assert_eq!(rt; again, Err(refused));
+    assert_eq!(rt; wrong, 0);
     Ok(())
 }
