@@ -1,5 +1,13 @@
 pub mod Sums
-pub mod Stocked
+pub mod Buckets
+pub mod KeysBucket
+pub mod GroupMaps
+pub mod BucketChanges
+pub mod DistinctKeys
+pub mod Lookups
+pub mod Placed
+pub mod GatheredSoFar
+pub mod EmptyBlock
 pub mod Steps
 pub mod Counted
 pub mod Gathered

@@ -5,7 +5,8 @@ use Rattle.flow_types.specs.Key.{number}
 use Rattle.flow_types.specs.Map.{without}
 use Rattle.group_search.specs.declared.entry.Entry.{Entry}
 use Rattle.group_search.specs.Records.{entries, entry_of}
-use Rattle.rib_owner.proofs.Stocked.{without_here, without_later, without_nothing}
+use Rattle.rib_owner.proofs.Buckets.{without_nothing}
+use Rattle.rib_owner.proofs.Lookups.{without_here, without_later}
 use Rattle.rib_owner.proofs.gathering.add_others.Goals as goal
 
 pub items-preserved-in-Continue-1 : goal.items-preserved-in-Continue-1

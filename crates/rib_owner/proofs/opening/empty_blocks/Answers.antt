@@ -5,7 +5,9 @@ use Rattle.group_search.specs.Image.{Image}
 use Rattle.rib_owner.specs.Stock.{part_in}
 use Rattle.rib_owner.proofs.Counted.{none_at_all}
 use Rattle.rib_owner.proofs.Filled.{opened_block, opened_more}
-use Rattle.rib_owner.proofs.Stocked.{empty_map, in_bucket, map_each}
+use Rattle.rib_owner.proofs.Buckets.{in_bucket}
+use Rattle.rib_owner.proofs.EmptyBlock.{empty_map}
+use Rattle.rib_owner.proofs.GroupMaps.{map_each}
 use Rattle.rib_owner.proofs.opening.empty_blocks.Goals as goal
 
 pub dealt-preserved : goal.dealt-preserved

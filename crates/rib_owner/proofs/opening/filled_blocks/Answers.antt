@@ -8,7 +8,7 @@ use Rattle.rib_owner.specs.Rib.{Part, map_in, no_part}
 use Rattle.rib_owner.specs.Stock.{ChangesGroup, part_in}
 use Rattle.rib_owner.proofs.Filled.{few_read, filled_foreign, filled_own, group_below, index_inside}
 use Rattle.rib_owner.proofs.Gathered.{nobody}
-use Rattle.rib_owner.proofs.Stocked.{bucket_of_place}
+use Rattle.rib_owner.proofs.KeysBucket.{bucket_of_place}
 use Rattle.rib_owner.proofs.opening.filled_blocks.Goals as goal
 use Rattle.rib_owner.proofs.opening.filled_blocks.Goals.{then-owner-number+in_ok-push, else-owner-number}
 

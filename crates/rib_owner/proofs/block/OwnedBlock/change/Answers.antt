@@ -8,7 +8,10 @@ use Rattle.group_history.specs.Change.{step, with_at}
 use Rattle.rib_owner.specs.Acceptance.{keys_in}
 use Rattle.rib_owner.specs.Rib.{map_in}
 use Rattle.rib_owner.specs.Stock.{ArePlaced, Stock, part_in}
-use Rattle.rib_owner.proofs.Stocked.{all_flows, distinct_bucket, in_bucket, map_stepped, maps_changed, put_removed}
+use Rattle.rib_owner.proofs.BucketChanges.{map_stepped, maps_changed, put_removed}
+use Rattle.rib_owner.proofs.Buckets.{in_bucket}
+use Rattle.rib_owner.proofs.DistinctKeys.{distinct_bucket}
+use Rattle.rib_owner.proofs.GroupMaps.{all_flows}
 use Rattle.rib_owner.proofs.block.OwnedBlock.change.Goals as goal
 use Rattle.rib_owner.proofs.block.OwnedBlock.change.Goals.{After-put, In_default}
 

@@ -5,7 +5,9 @@ use Rattle.flow_types.specs.Map.{flow_at}
 use Rattle.group_search.specs.Home.{group_of}
 use Rattle.rib_owner.specs.Rib.{map_in}
 use Rattle.rib_owner.specs.Stock.{Stock, part_in}
-use Rattle.rib_owner.proofs.Stocked.{found_in_group, in_bucket, left_here, left_later, left_none, next_of}
+use Rattle.rib_owner.proofs.BucketChanges.{found_in_group}
+use Rattle.rib_owner.proofs.Buckets.{in_bucket}
+use Rattle.rib_owner.proofs.Lookups.{left_here, left_later, left_none, next_of}
 use Rattle.rib_owner.proofs.block.OwnedBlock.find.Goals as goal
 
 pub returns-then-number-clause-flow : goal.returns-then-number-clause-flow

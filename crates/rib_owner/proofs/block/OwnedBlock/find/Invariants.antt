@@ -1,6 +1,6 @@
 use Rattle.std.proofs.Common.{◌≡◌, drop}
 use Rattle.flow_types.specs.Map.{flow_at}
-use Rattle.rib_owner.proofs.Stocked.{in_bucket}
+use Rattle.rib_owner.proofs.Buckets.{in_bucket}
 use Rattle.rib_owner.proofs.block.OwnedBlock.find.Given as goal
 
 abbrev pub invariant-items : goal.invariant-items

@@ -6,7 +6,7 @@ use Rattle.group_search.specs.Records.{entries}
 use Rattle.rib_owner.specs.Rib.{map_in}
 use Rattle.rib_owner.specs.Stock.{part_in}
 use Rattle.rib_owner.proofs.Gathered.{gathered_removed, gathered_set}
-use Rattle.rib_owner.proofs.Stocked.{map_at}
+use Rattle.rib_owner.proofs.GroupMaps.{map_at}
 use Rattle.rib_owner.proofs.block.OwnedBlock.gather.Goals as goal
 
 pub returns-in_ok-push : goal.returns-in_ok-push

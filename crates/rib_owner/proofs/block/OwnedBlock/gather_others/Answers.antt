@@ -5,7 +5,8 @@ use Rattle.group_search.specs.declared.entry.Entry.{Entry}
 use Rattle.group_search.specs.Home.{group_of}
 use Rattle.group_search.specs.Records.{entries}
 use Rattle.rib_owner.specs.Stock.{Stock}
-use Rattle.rib_owner.proofs.Stocked.{flows_from, gathered_all, gathered_no, gathered_none, gathered_yes, in_bucket}
+use Rattle.rib_owner.proofs.Buckets.{flows_from, in_bucket}
+use Rattle.rib_owner.proofs.GatheredSoFar.{gathered_all, gathered_no, gathered_none, gathered_yes}
 use Rattle.rib_owner.proofs.block.OwnedBlock.gather_others.Goals as goal
 use Rattle.rib_owner.proofs.block.OwnedBlock.gather_others.Goals.{then-group+in_ok-add_others, else-group}
 

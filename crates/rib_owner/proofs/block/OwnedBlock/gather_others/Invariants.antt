@@ -1,7 +1,7 @@
 use Rattle.std.proofs.Common.{◌≡◌}
 use Rattle.flow_types.specs.Map.{without}
 use Rattle.group_search.specs.Records.{entries}
-use Rattle.rib_owner.proofs.Stocked.{flows_from}
+use Rattle.rib_owner.proofs.Buckets.{flows_from}
 use Rattle.rib_owner.proofs.block.OwnedBlock.gather_others.Given as goal
 
 -- the entries of the buckets so far

@@ -2,7 +2,7 @@ use Rattle.std.proofs.Common.{◌∙◌, ap, sym}
 use Rattle.rib_owner.specs.Acceptance.{keys_in}
 use Rattle.rib_owner.specs.Rib.{map_in}
 use Rattle.rib_owner.specs.Stock.{Stock, part_in}
-use Rattle.rib_owner.proofs.Stocked.{all_flows}
+use Rattle.rib_owner.proofs.GroupMaps.{all_flows}
 use Rattle.rib_owner.proofs.block.OwnedBlock.keys.Goals as goal
 
 pub returns : goal.returns

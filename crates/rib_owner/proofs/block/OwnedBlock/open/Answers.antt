@@ -7,7 +7,7 @@ use Rattle.flow_types.specs.declared.record.Flow.{Flow}
 use Rattle.group_search.specs.Canon.{rows_in}
 use Rattle.rib_owner.proofs.Counted.{no_flows, none_at_all, rows_are, used_more}
 use Rattle.rib_owner.specs.Stock.{bucket_for}
-use Rattle.rib_owner.proofs.Stocked.{in_bucket}
+use Rattle.rib_owner.proofs.Buckets.{in_bucket}
 use Rattle.rib_owner.proofs.Sums.{sum_from}
 use Rattle.rib_owner.proofs.block.OwnedBlock.open.Goals as goal
 

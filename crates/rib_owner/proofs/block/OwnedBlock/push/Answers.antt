@@ -5,7 +5,9 @@ use Rattle.flow_types.specs.declared.record.Flow.{Flow}
 use Rattle.rib_owner.specs.Acceptance.{keys_in}
 use Rattle.rib_owner.specs.Rib.{map_in}
 use Rattle.rib_owner.specs.Stock.{Stock, part_in}
-use Rattle.rib_owner.proofs.Stocked.{all_flows, in_bucket, map_put, maps_changed}
+use Rattle.rib_owner.proofs.BucketChanges.{map_put, maps_changed}
+use Rattle.rib_owner.proofs.Buckets.{in_bucket}
+use Rattle.rib_owner.proofs.GroupMaps.{all_flows}
 use Rattle.rib_owner.proofs.block.OwnedBlock.push.Goals as goal
 use Rattle.rib_owner.proofs.block.OwnedBlock.push.Goals.{After-put}
 

@@ -2,7 +2,8 @@ use Rattle.std.proofs.Common.{◌≡◌, ◌∙◌, ◌++◌, ◌∷◌, [], Lis
 use Rattle.std.proofs.lemmas.List.{length-set}
 use Rattle.flow_types.specs.declared.record.Flow.{Flow}
 use Rattle.rib_owner.proofs.Counted.{rows_same}
-use Rattle.rib_owner.proofs.Stocked.{in_bucket, placed_put}
+use Rattle.rib_owner.proofs.Buckets.{in_bucket}
+use Rattle.rib_owner.proofs.Placed.{placed_put}
 use Rattle.rib_owner.proofs.block.OwnedBlock.put.Goals as goal
 
 with_one : List (List Flow) → ℕ → Flow → List (List Flow)

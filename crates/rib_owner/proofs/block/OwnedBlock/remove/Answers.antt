@@ -5,7 +5,9 @@ use Rattle.flow_types.specs.Map.{without}
 use Rattle.std.specs.Prelude.{remove}
 use Rattle.rib_owner.specs.Stock.{Stock}
 use Rattle.rib_owner.proofs.Counted.{rows_same}
-use Rattle.rib_owner.proofs.Stocked.{in_bucket, not_there, placed_without, removed_at}
+use Rattle.rib_owner.proofs.Buckets.{in_bucket}
+use Rattle.rib_owner.proofs.Lookups.{not_there, removed_at}
+use Rattle.rib_owner.proofs.Placed.{placed_without}
 use Rattle.rib_owner.proofs.block.OwnedBlock.remove.Goals as goal
 
 -- what is left in the bucket where the key was found

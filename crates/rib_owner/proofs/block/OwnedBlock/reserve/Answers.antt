@@ -3,7 +3,7 @@ use Rattle.bucket_arena.specs.Arena.{item_count}
 use Rattle.rib_owner.specs.Acceptance.{keys_in}
 use Rattle.rib_owner.specs.Rib.{map_in}
 use Rattle.rib_owner.specs.Stock.{Stock, part_in}
-use Rattle.rib_owner.proofs.Stocked.{all_flows}
+use Rattle.rib_owner.proofs.GroupMaps.{all_flows}
 use Rattle.rib_owner.proofs.block.OwnedBlock.reserve.Goals as goal
 
 pub reserve-requires : goal.reserve-requires

@@ -3,7 +3,7 @@ use Rattle.std.proofs.lemmas.List.{length-set}
 use Rattle.rib_owner.specs.Rib.{Part}
 use Rattle.rib_owner.specs.Stock.{part_in}
 use Rattle.rib_owner.proofs.Counted.{rows_same, rows_with, rows_within, with_map}
-use Rattle.rib_owner.proofs.Stocked.{map_each}
+use Rattle.rib_owner.proofs.GroupMaps.{map_each}
 use Rattle.rib_owner.proofs.block.OwnedBlock.set_rows.Goals as goal
 
 pub overflow_sub-self : goal.overflow_sub-self

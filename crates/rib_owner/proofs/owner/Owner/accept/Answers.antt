@@ -21,7 +21,7 @@ use Rattle.rib_owner.specs.Stock.{part_in}
 use Rattle.rib_owner.specs.Turn.{plan_of}
 use Rattle.rib_owner.proofs.Accepting.{IsChanged, IsSeen, changed, err_is, found_kept, on_err, parts_same, same_err, seen, seen_accepted, seen_owner, seen_place, seen_rows, seen_small, seen_stands, seen_turn}
 use Rattle.rib_owner.proofs.Answering.{answer_spent}
-use Rattle.rib_owner.proofs.Stocked.{bucket_of_place}
+use Rattle.rib_owner.proofs.KeysBucket.{bucket_of_place}
 use Rattle.rib_owner.proofs.Removed.{place_not_rows, removed_fits}
 use Rattle.rib_owner.proofs.owner.Owner.accept.Goals as goal
 

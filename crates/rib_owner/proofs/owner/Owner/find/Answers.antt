@@ -14,7 +14,7 @@ use Rattle.rib_owner.specs.Part.{IsKeptPart, IsOwner}
 use Rattle.rib_owner.specs.Rib.{Part, Rib, found_in, group_in, is_owned, map_in, no_part, node_and_record, part_of}
 use Rattle.rib_owner.specs.Stock.{Stock, part_in}
 use Rattle.rib_owner.proofs.Answering.{found_now}
-use Rattle.rib_owner.proofs.Stocked.{bucket_of_place}
+use Rattle.rib_owner.proofs.KeysBucket.{bucket_of_place}
 use Rattle.rib_owner.proofs.owner.Owner.find.Goals as goal
 
 found_there : (rib : Rib) (stocks : List Stock) (key : FlowKey) (block bucket group index : ℕ) (stock : Stock) (found : Option Flow)
