@@ -1,10 +1,10 @@
 -- Rows for the numbers below a count, one after the other.
-use Rattle.std.proofs.Common.{◌≡◌, ◌∙◌, ◌+◌, ℕ, List, [], ◌∷◌, ◌++◌, ap, sym, map, append_assoc, refl, arith}
+use Rattle.std.proofs.Common.{◌≡◌, ◌∙◌, ◌+◌, ℕ, List, [], ◌∷◌, ◌++◌, ap, sym, map, append_assoc, arith}
 use Rattle.std.specs.List.{concat, range_with_len}
 use Rattle.std.proofs.lemmas.List.{append-nil}
 use Rattle.std.proofs.lemmas.List.Folds.{concat-append}
 use Rattle.std.proofs.lemmas.List.FromFn.{map-range_with_len_more}
-use Rattle.grind_rows.specs.Input.{flow_rows, packet_rows, rows_below, turn, turns}
+use Rattle.grind_rows.specs.Input.{rows_below}
 
 module _ (row : ℕ → List ℕ) where
   pub no_row : (text : List ℕ) → text ≡ text ++ rows_below 0 row

@@ -1,9 +1,7 @@
 -- How long texts are.
 use Rattle.std.proofs.Common.{◌≡◌, ◌∙◌, suc, ◌+◌, ◌≤◌, ◌<◌, ◌^◌, ℕ, List, [], ◌∷◌, ◌++◌, length, codes, decimal, ap, arith, length-append}
 use Rattle.std.specs.List.{concat}
-use Rattle.std.proofs.lemmas.List.{append-nil}
 use Rattle.std.proofs.lemmas.Fmt.{length-decimal-le}
-use Rattle.std.specs.Prelude.{Result, OnOk, Ok, Err}
 
 -- a comma and a number of 64 bits have at most 21 octets
 pub number_within : (old new : List ℕ) (number : ℕ) → number < 2 ^ 64 → new ≡ old ++ concat (codes "," ∷ decimal number ∷ []) → length new ≤ length old + 21

@@ -1,7 +1,6 @@
 -- What a shard says by the records of its cells.
-use Rattle.std.proofs.Common.{ℕ, zero, suc, ◌≡◌, ◌≢◌, ◌∙◌, ◌+◌, ◌*◌, ◌/◌, ◌%◌, ◌<◌, ◌≤◌, Bool, true, false, ◌&&◌, cond, List, [], ◌∷◌, ◌++◌, length, map, get_or, Option, Some, None, refl, sym, ap, ⊎_elim, arith}
+use Rattle.std.proofs.Common.{ℕ, ◌≡◌, ◌≢◌, ◌∙◌, ◌+◌, ◌*◌, ◌/◌, ◌%◌, ◌<◌, ◌≤◌, Bool, ◌&&◌, List, [], ◌∷◌, length, map, get_or, Option, Some, refl, sym, ap, ⊎_elim, arith}
 use Rattle.std.specs.Prelude.{◌==◌, if◌then◌else◌}
-use Rattle.std.specs.List.{slice_get}
 use Rattle.std.proofs.lemmas.Bool.{cases_eq, eq-eqb, ne_eqb}
 use Rattle.std.proofs.lemmas.List.{get_or-map}
 use Rattle.std.proofs.lemmas.Option.{slice_get-get_or}
@@ -12,12 +11,12 @@ use Rattle.group_search.specs.declared.published.Publication.{Publication}
 use Rattle.group_search.specs.declared.record.GroupRecord.{GroupRecord}
 use Rattle.group_search.specs.declared.record.GroupRecord.TheVariants.{Served}
 use Rattle.group_search.specs.Decoding.{decode}
-use Rattle.group_search.specs.Home.{Home, group_of, is_home}
+use Rattle.group_search.specs.Home.{Home, is_home}
 use Rattle.group_search.specs.Image.{Image}
 use Rattle.group_search.specs.Published.{count, opening_record, published_group, record_at, records_of}
 use Rattle.group_cell.specs.Opening.{HaveAllGroups, Opened}
-use Rattle.group_cell.specs.Rule.{IsIn, latest}
-use Rattle.group_cell.specs.Seats.{node_at_version, the_group}
+use Rattle.group_cell.specs.Rule.{latest}
+use Rattle.group_cell.specs.Seats.{node_at_version}
 use Rattle.replica_shard.specs.Owners.{AreOwnersCells, cell_of, in_cluster}
 use Rattle.replica_shard.specs.Routed.{decoded}
 use Rattle.replica_shard.specs.Shard.{home_in_state, route_in_state}

@@ -1,11 +1,10 @@
 -- How many rows are free beside a group, by its cells.
-use Rattle.std.proofs.Common.{ℕ, zero, suc, ◌≡◌, ◌∙◌, ◌+◌, ◌-◌, ◌*◌, ◌/◌, ◌%◌, ◌<◌, ◌≤◌, Bool, true, false, not, cond, List, [], ◌∷◌, map, sum, Some, refl, sym, ap, arith}
+use Rattle.std.proofs.Common.{ℕ, zero, suc, ◌≡◌, ◌∙◌, ◌+◌, ◌-◌, ◌/◌, ◌%◌, ◌<◌, Bool, true, false, not, cond, List, [], ◌∷◌, map, sum, refl, sym, ap, arith}
 use Rattle.std.specs.Prelude.{◌==◌, filter}
 use Rattle.std.specs.List.{range_with_len}
 use Rattle.flow_types.specs.Size.{Size}
 use Rattle.group_search.specs.declared.published.Publication.{Publication}
 use Rattle.group_search.specs.Canon.{rows_in}
-use Rattle.group_search.specs.Home.{Home}
 use Rattle.group_cell.specs.Opening.{HaveAllGroups, Opened}
 use Rattle.group_cell.specs.Rule.{latest}
 use Rattle.group_cell.specs.Seats.{rows_beside, the_group}

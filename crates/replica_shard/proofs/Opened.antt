@@ -1,6 +1,6 @@
 -- What a shard says that is opened with the images of all blocks that flows give, and where keys are sent after changes.
-use Rattle.std.proofs.Common.{ℕ, ◌≡◌, ◌∙◌, ◌+◌, ◌*◌, ◌/◌, ◌%◌, ◌<◌, ◌≤◌, Bool, true, false, ◌&&◌, cond, List, [], length, Option, Some, None, refl, sym, ap, arith}
-use Rattle.std.specs.Prelude.{nat_lt, option_and_then, slice_index}
+use Rattle.std.proofs.Common.{ℕ, ◌≡◌, ◌∙◌, ◌/◌, ◌%◌, ◌≤◌, Bool, true, false, ◌&&◌, cond, List, [], length, Option, Some, None, refl, ap, arith}
+use Rattle.std.specs.Prelude.{nat_lt, slice_index}
 use Rattle.std.specs.List.{slice_get}
 use Rattle.std.proofs.lemmas.Bool.{and_from, cond-true, lt-ltb, ltb-false, ltb-true}
 use Rattle.std.proofs.lemmas.Option.{slice_get-get_or, slice_get_past}
@@ -13,7 +13,6 @@ use Rattle.group_search.specs.Home.{Home, choices, group_of, home}
 use Rattle.group_search.specs.Image.{Image}
 use Rattle.group_search.specs.Owned.{IsOwned}
 use Rattle.group_search.specs.Records.{record_of}
-use Rattle.group_search.specs.declared.record.GroupRecord.{GroupRecord}
 use Rattle.group_history.specs.declared.change.Change.{Change}
 use Rattle.group_history.specs.Change.{changed_group}
 use Rattle.group_history.specs.History.{changed, now}

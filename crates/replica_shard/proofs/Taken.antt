@@ -1,10 +1,10 @@
 -- A shard after one more record.
-use Rattle.std.proofs.Common.{ℕ, ◌≡◌, ◌∙◌, ◌+◌, Bool, true, false, cond, List, [], ◌∷◌, ◌++◌, length, Option, Some, refl, sym, ap, arith, append-nil, length-append}
+use Rattle.std.proofs.Common.{◌≡◌, ◌∙◌, ◌+◌, Bool, true, false, List, [], ◌∷◌, ◌++◌, length, Option, Some, refl, ap, append-nil, length-append}
 use Rattle.std.specs.Prelude.{if◌then◌else◌}
 use Rattle.group_search.specs.declared.published.Publication.{Publication}
 use Rattle.group_search.specs.declared.record.GroupRecord.{GroupRecord}
 use Rattle.group_search.specs.Home.{Home, is_home}
-use Rattle.group_search.specs.Published.{count, published_group, records_of}
+use Rattle.group_search.specs.Published.{records_of}
 use Rattle.group_cell.proofs.Versions.{records_of-append}
 use Rattle.delta_codec.specs.declared.message.TableMessage.{TableMessage}
 use Rattle.replica_shard.specs.Owners.{publication_of}

@@ -4,7 +4,7 @@ use Rattle.flow_types.specs.Size.{Size}
 use Rattle.group_search.specs.declared.published.Publication.{Publication}
 use Rattle.group_search.specs.Home.{Home}
 use Rattle.group_search.specs.Image.{Image}
-use Rattle.group_cell.specs.Opening.{HaveAllGroups, Opened}
+use Rattle.group_cell.specs.Opening.{Opened}
 use Rattle.delta_codec.specs.declared.message.TableMessage.{TableMessage}
 
 -- a record of the cells, by the cluster's blocks

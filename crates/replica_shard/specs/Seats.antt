@@ -1,14 +1,11 @@
 -- What a contract sees of a shard and its seats.
-use Rattle.std.specs.Prelude.{ℕ, ◌≡◌, ◌+◌, ◌*◌, ◌/◌, ◌≤◌, ◌<◌, List, length, map, Option}
-use Rattle.flow_types.specs.Size.{Size}
+use Rattle.std.specs.Prelude.{ℕ, List, map}
 use Rattle.group_search.specs.declared.published.Publication.{Publication}
 use Rattle.group_search.specs.Home.{Home}
 use Rattle.group_search.specs.Image.{Image}
 use Rattle.group_cell.specs.Seats.{Changes, HasLooked, IsReaderOf, IsWriterOf, looks, opened_with, published, seen}
-use Rattle.delta_codec.specs.declared.message.TableMessage.{TableMessage}
 use Rattle.replica_shard.specs.Owners.{cell_of, in_cluster}
-use Rattle.replica_shard.specs.Shard.{ShardState}
-use Rattle.replica_shard.specs.Store.{ShardStore, shard_state_of}
+use Rattle.replica_shard.specs.Store.{ShardStore}
 use Rattle.replica_shard.specs.declared.shard.Shard.{Shard}
 use Rattle.replica_shard.specs.declared.shard.ShardReader.{ShardReader}
 use Rattle.replica_shard.specs.declared.shard.ShardWriter.{ShardWriter}

@@ -112,6 +112,7 @@ impl OwnedBlock {
         ensures map { OnOk result (let group = group_of self.old.choices bucket in
             IsPermutation (map_in (part_in self.old) group ++ flow ∷ []) (map_in (part_in self.new) group)) }
     {
+        // What holds of the block is known where a field of it is read.
         let _ = &self.choices;
         self.reserve()?;
         self.put(bucket, flow);
@@ -156,6 +157,7 @@ impl OwnedBlock {
         ensures place { IfSome result (λ found. slice_get (bucket_of self.now.arena bucket) found.place ≡ Some found.flow) }
         ensures in_group { flow_at key (bucket_of self.now.arena bucket) ≡ flow_at key (map_in (part_in self.now) (group_of self.now.choices bucket)) }
     {
+        // As in `push`.
         let _keys = self.keys;
         let number = key.number();
         let mut place = 0;
@@ -239,6 +241,7 @@ impl OwnedBlock {
         ensures map { let group = group_of self.old.choices bucket in
             IsPermutation (step (map_in (part_in self.old) group) change.now) (map_in (part_in self.new) group) }
     {
+        // As in `push`.
         let _ = &self.choices;
         self.set_rows(bucket, rows);
         self.remove(bucket, found, change.key);

@@ -1,4 +1,4 @@
-use Rattle.std.proofs.Common.{◌++◌, arith, codes}
+use Rattle.std.proofs.Common.{arith, codes}
 use Rattle.grind_rows.specs.Input.{flow_rows}
 use Rattle.grind_rows.specs.Made.{flow}
 use Rattle.grind_rows.specs.Rows.{flow_row}

@@ -1,4 +1,4 @@
-use Rattle.std.proofs.Common.{◌+◌, ◌*◌, ◌++◌, arith}
+use Rattle.std.proofs.Common.{◌+◌, ◌*◌, arith}
 use Rattle.grind_rows.specs.Input.{packet_row, packet_rows}
 use Rattle.grind_rows.proofs.Below.{next_row, no_row}
 use Rattle.grind_rows.proofs.rows.write_packets.Goals as goal

@@ -1,4 +1,4 @@
-use Rattle.std.proofs.Common.{ℕ, ◌≡◌, ◌∙◌, ◌+◌, ◌*◌, ◌/◌, ◌%◌, ◌<◌, ◌≤◌, ◌++◌, ◌∷◌, [], List, length, map, ap, sym, arith}
+use Rattle.std.proofs.Common.{ℕ, ◌≡◌, ◌∙◌, ◌+◌, ◌*◌, ◌++◌, ◌∷◌, [], List, length, map, ap, sym, arith}
 use Rattle.std.proofs.lemmas.List.{length-map, map_push}
 use Rattle.group_search.specs.declared.published.Publication.{Publication}
 use Rattle.group_cell.specs.Seats.{opened_with, published, the_group}

@@ -1,11 +1,10 @@
-use Rattle.std.proofs.Common.{ℕ, ◌≡◌, ◌∙◌, ◌*◌, ◌++◌, List, map, ap, subst}
+use Rattle.std.proofs.Common.{ℕ, ◌∙◌, ◌*◌, List, map, ap, subst}
 use Rattle.std.proofs.lemmas.List.{map-append}
 use Rattle.group_search.specs.declared.published.Publication.{Publication}
 use Rattle.group_search.specs.Home.{Home}
 use Rattle.group_search.specs.Published.{Extends}
 use Rattle.group_cell.specs.Seats.{Changes, HasLooked, opened_with, seen, the_group}
 use Rattle.replica_shard.specs.Owners.{in_cluster}
-use Rattle.replica_shard.specs.Seats.{seen_list, shard_at}
 use Rattle.replica_shard.proofs.Cells.{route_is}
 use Rattle.replica_shard.proofs.shard.Shard.route_at.Goals as goal
 

@@ -1,6 +1,6 @@
-use Rattle.std.proofs.Common.{◌≡◌, ◌∙◌, ◌≤◌, List, [], ap, arith}
+use Rattle.std.proofs.Common.{◌∙◌, List, [], ap, arith}
 use Rattle.group_search.specs.Image.{Image}
-use Rattle.replica_shard.specs.Store.{ShardStore, shard_state_of}
+use Rattle.replica_shard.specs.Store.{shard_state_of}
 use Rattle.replica_shard.proofs.Opened.{state_built}
 use Rattle.replica_shard.proofs.shard.plan.ShardPlan.of.Goals as goal
 
