@@ -25,6 +25,17 @@ module _ {X : Type 0} (cells : List (Option (Cell X))) (chain : Chain) where
   pub at_place : (p : ℕ) → p < chain.len → 0 < occurrences (get_or ns p 0) ns
   at_place p l = let l' : p < length ns = omega (arith, long) in stands ns p l'
 
+  -- the number of a place in the run, and its cell was written
+  module _ (whole : IsWhole cells chain) (p : ℕ) (in_run : p ≤ chain.run) (l : p < chain.len) where
+    pub near : get_or ns p 0 ≡ chain.first + p
+    near = whole.marked.runs p in_run l
+
+    pub near_written : IsWritten cells (chain.first + p)
+    near_written = subst (IsWritten cells) near (whole.written _ (at_place p l))
+
+    pub near_within : chain.first + p < length cells
+    near_within = within cells _ near_written.0 near_written.1
+
   -- the cell that ends a whole chain stands there once, after the others
   module _ (whole : IsWhole cells chain) (some : 0 < chain.len) where
     pub last_stands : 0 < occurrences chain.last ns

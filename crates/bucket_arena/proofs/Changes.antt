@@ -11,7 +11,7 @@ use Rattle.bucket_arena.specs.Arena.{lists_of}
 use Rattle.bucket_arena.specs.Chains.{occurrences, cell_at, numbers, numbers_from, item_and, items_in, items, IsMarked, IsWhole, IsNextFree, standings, AreChains, no_cells}
 use Rattle.bucket_arena.proofs.Counts.{same, same_or_not, same_self, occurrences-append, occurrences-remove}
 use Rattle.bucket_arena.proofs.Links.{same_numbers, same_items}
-use Rattle.bucket_arena.proofs.Appending.{long, at_place}
+use Rattle.bucket_arena.proofs.Appending.{long, last_stands}
 use Rattle.bucket_arena.proofs.Standing.{items_counted, in_chain, nth, at_most, below_made, part, whole, apart, apart_free, free_apart, numbers_else, lists_now, sums_now, marked_now}
 
 none_long : (n : ℕ) → sum_by (λ (c : Chain). c.len) (replicate n no_cells) ≡ 0
@@ -224,13 +224,18 @@ module _ {X : Type 0} (cells now : List (Option (Cell X))) (chains : List Chain)
       pub lists_pushed : (xs : List X) → items (cell_at now) grown ≡ xs → lists_of now (set chains b grown) ≡ set (lists_of cells chains) b xs
       lists_pushed xs e = lists_now cells chains free made sound now b number lb others out grown xs e
 
-  -- the cell at a place of the chain of the bucket b, taken out of it and linked before the free chain
-  module _ (b : ℕ) (lb : b < length chains) (place : ℕ) (lp : place < (get_or chains b no_cells).len) (shrunk freed : Chain) (number : ℕ) (mid : List (Option (Cell X)))
-      (is_number : number ≡ get_or (numbers (cell_at cells) (get_or chains b no_cells)) place 0)
-      (unlinked : numbers (cell_at mid) shrunk ≡ remove (numbers (cell_at cells) (get_or chains b no_cells)) place)
+  -- the last cell of the chain of the bucket b, taken off it and linked before the free chain
+  module _ (b : ℕ) (lb : b < length chains) (some : 0 < (get_or chains b no_cells).len) (shrunk freed : Chain) (mid : List (Option (Cell X)))
+      (cut : numbers (cell_at mid) shrunk ≡ remove (numbers (cell_at cells) (get_or chains b no_cells)) ((get_or chains b no_cells).len - 1))
       (others : (m : ℕ) → occurrences m (numbers (cell_at cells) (get_or chains b no_cells)) ≡ 0 → cell_at mid m ≡ cell_at cells m) where
+    abbrev number : ℕ
+    number = (get_or chains b no_cells).last
+
     pub number_in : 0 < occurrences number (numbers (cell_at cells) (get_or chains b no_cells))
-    number_in = subst (λ k. 0 < occurrences k (numbers (cell_at cells) (get_or chains b no_cells))) (sym is_number) (at_place cells (get_or chains b no_cells) place lp)
+    number_in = last_stands cells (get_or chains b no_cells) (whole cells chains free made sound b lb) some
+
+    pub number_written : IsWritten cells number
+    number_written = (whole cells chains free made sound b lb).written number number_in
 
     free_mid : numbers (cell_at mid) free ≡ numbers (cell_at cells) free
     free_mid = same_numbers (cell_at cells) (cell_at mid) free.len free.first (λ m some. others m (apart_free cells chains free made sound m b lb some))
@@ -240,8 +245,9 @@ module _ {X : Type 0} (cells now : List (Option (Cell X))) (chains : List Chain)
 
     counts : (m : ℕ) → occurrences m (numbers (cell_at mid) shrunk) + same number m ≡ occurrences m (numbers (cell_at cells) (get_or chains b no_cells))
     counts m =
-        let l : place < length (numbers (cell_at cells) (get_or chains b no_cells)) = omega (arith, long cells (get_or chains b no_cells), lp) in
-        let e = ap (occurrences m) unlinked in let i = ap (λ k. same k m) is_number in
+        let place = (get_or chains b no_cells).len - 1 in
+        let l : place < length (numbers (cell_at cells) (get_or chains b no_cells)) = omega (arith, long cells (get_or chains b no_cells), some) in
+        let e = ap (occurrences m) cut in let i = ap (λ k. same k m) ((whole cells chains free made sound b lb).marked.ends some) in
         omega (arith, e, i, occurrences-remove m (numbers (cell_at cells) (get_or chains b no_cells)) place l)
 
     module _ (whole_mid : IsWhole mid shrunk) (shorter : shrunk.len + 1 ≡ (get_or chains b no_cells).len) (kept_mid : (m : ℕ) → IsWritten cells m → IsWritten mid m) (room_mid : length mid ≡ length cells)

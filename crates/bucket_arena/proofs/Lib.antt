@@ -8,7 +8,7 @@ pub mod Counts
 pub mod Written
 pub mod Links
 pub mod Appending
-pub mod Unlinking
+pub mod Closing
 pub mod Writing
 pub mod Standing
 pub mod Changes

@@ -2,7 +2,9 @@
 ghost use Rattle.std.specs.Prelude.{◌≡◌, ℕ, ◌+◌, ◌<◌, ◌≤◌, [], ◌∷◌, ◌++◌, length, get_or, replicate, remove, slice_get, slice_set, IsOk, OnOk, OnErr, None};
 ghost use Rattle.bucket_arena.specs.Arena.{bucket_of, item_count, HasGrown};
 
-use crate::chain::{Cell, Chain, append, next_free, number_at, release, replace, unlink};
+use crate::chain::{
+    Cell, Chain, append, move_up, next_free, number_at, release, replace, without_last,
+};
 use crate::items::Items;
 use crate::row::Row;
 use out_of_memory::OutOfMemory;
@@ -22,7 +24,7 @@ pub struct Arena<T: Copy> {
     // The cells that were given back.
     free: Chain,
     // How many cells were ever written: those of lesser number.
-    made: u32,
+    made: usize,
 }
 
 impl<T: Copy> Model for Arena<T> {
@@ -95,8 +97,8 @@ impl<T: Copy> Arena<T> {
         self.move_to(needed.max(doubled))
     }
 
-    /// Lays the items of each bucket side by side in a new piece of memory, where `at` finds them without a walk until one
-    /// of their bucket is taken. The room stays the same.
+    /// Lays the items of each bucket side by side in a new piece of memory, where `at` finds them without a walk. Items that
+    /// are pushed later may stand apart from them. The room stays the same.
     pub fn settle(&mut self) -> Result<(), OutOfMemory>
         ensures lists { self.new.buckets ≡ self.old.buckets }
         ensures spare { self.new.spare ≡ self.old.spare }
@@ -120,7 +122,7 @@ impl<T: Copy> Arena<T> {
     fn spare(&self) -> usize
         ensures { result ≡ self.now.spare }
     {
-        self.free.len as usize + (self.row.room() - self.made as usize)
+        self.free.len as usize + (self.row.room() - self.made)
     }
 
     /// Moves the items to a piece with room for `room` items in all, bucket by bucket.
@@ -174,8 +176,8 @@ impl<T: Copy> Arena<T> {
         self.chains[bucket as usize].len
     }
 
-    /// The item at a place of the bucket, below its length. Where items were taken since they were settled, it walks the
-    /// bucket's chain up to there, so take `iter` for all of a bucket.
+    /// The item at a place of the bucket, below its length. Past the items that stand side by side it walks the bucket's
+    /// chain up to there, so take `iter` for all of a bucket.
     pub fn at(&self, bucket: u8, place: u32) -> T
         requires { place < length (bucket_of self.now bucket) }
         ensures { slice_get (bucket_of self.now bucket) place ≡ Some result }
@@ -208,8 +210,8 @@ impl<T: Copy> Arena<T> {
         replace(&mut self.row, chain, place, item);
     }
 
-    /// Takes the item at a place of the bucket, below its length. Later items close up, and `spare` rises by 1. It walks
-    /// the chain as `at` does.
+    /// Takes the item at a place of the bucket, below its length. Later items close up, each by a cell, and `spare` rises
+    /// by 1. What stood side by side still does.
     pub fn take(&mut self, bucket: u8, place: u32) -> T
         requires { place < length (bucket_of self.old bucket) }
         ensures taken { slice_get (bucket_of self.old bucket) place ≡ Some result }
@@ -218,11 +220,11 @@ impl<T: Copy> Arena<T> {
         ensures count { item_count self.new + 1 ≡ item_count self.old }
     {
         let chain = self.chains[bucket as usize];
-        let unlinked = unlink(&mut self.row, chain, place);
-        let item = self.row.read(unlinked.number).item;
-        let freed = release(&mut self.row, self.free, unlinked.number);
+        let item = move_up(&mut self.row, chain, place);
+        let shrunk = without_last(&self.row, chain);
+        let freed = release(&mut self.row, self.free, chain.last, item);
         self.free = freed;
-        self.chains[bucket as usize] = unlinked.chain;
+        self.chains[bucket as usize] = shrunk;
         item
     }
 }

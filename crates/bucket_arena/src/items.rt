@@ -10,7 +10,7 @@ use std::marker::Model;
 #[derive(Drop)]
 pub struct Items<'a, T: Copy> {
     pub(crate) row: &'a Row<Cell<T>>,
-    pub(crate) next: u32,
+    pub(crate) next: usize,
     pub(crate) left: u32,
 }
 

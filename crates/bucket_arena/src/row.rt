@@ -67,23 +67,23 @@ impl<T: Copy> Row<T> {
     }
 
     /// The value in the cell `number`, which was written before.
-    pub(crate) fn read(&self, number: u32) -> T
+    pub(crate) fn read(&self, number: usize) -> T
         requires { IsWritten self.now number }
         ensures { get_or self.now number None ≡ Some result }
     {
         match &self.piece {
-            Some((piece, _)) => *piece.read(number as usize),
+            Some((piece, _)) => *piece.read(number),
             None => unreachable!(),
         }
     }
 
     /// Writes the cell `number`, over whatever it held.
-    pub(crate) fn write(&mut self, number: u32, value: T)
+    pub(crate) fn write(&mut self, number: usize, value: T)
         requires { number < length self.old }
         ensures { self.new ≡ slice_set self.old number (Some value) }
     {
         match &mut self.piece {
-            Some((piece, _)) => piece.write(number as usize, value),
+            Some((piece, _)) => piece.write(number, value),
             None => unreachable!(),
         }
     }

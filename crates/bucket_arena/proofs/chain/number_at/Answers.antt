@@ -1,21 +1,21 @@
 use Rattle.std.proofs.Common.{◌≡◌, ◌+◌, ◌<◌, suc, sym, ◌∙◌, ap, subst, arith, get_or}
 use Rattle.bucket_arena.specs.Row.{IsWritten}
 use Rattle.bucket_arena.specs.Chains.{cell_at, next_of, numbers}
-use Rattle.bucket_arena.proofs.Appending.{at_place}
+use Rattle.bucket_arena.proofs.Appending.{at_place, near, near_written, near_within}
 use Rattle.bucket_arena.proofs.Links.{next_number}
-use Rattle.bucket_arena.proofs.Written.{within}
 use Rattle.bucket_arena.proofs.chain.number_at.Goals as goal
 
+pub overflow_add-result : goal.overflow_add-result
+overflow_add-result g c = let l = near_within c.args.row.now c.args.chain c.requires.whole c.args.place (omega arith) c.requires.place in omega (arith, l, c.requires.few)
+
+pub returns-then-place-chain-clause-written : goal.returns-then-place-chain-clause-written
+returns-then-place-chain-clause-written g c = near_written c.args.row.now c.args.chain c.requires.whole c.args.place (omega arith) c.requires.place
+
 pub overflow_add-number : goal.overflow_add-number
-overflow_add-number g c =
-    let run = c.min-run.result in
-    let l : run < c.args.chain.len = omega (arith, c.requires.place, c.min-run.ensures) in
-    let there = c.requires.whole.marked.runs run (omega (arith, c.min-run.ensures)) l in
-    let got = c.requires.whole.written _ (at_place c.args.row.now c.args.chain run l) in
-    omega (arith, there, within c.args.row.now _ got.0 got.1, c.requires.few)
+overflow_add-number g c = let l = near_within c.args.row.now c.args.chain c.requires.whole c.args.chain.run (omega arith) (omega (arith, c.requires.place)) in omega (arith, l, c.requires.few)
 
 pub walked-init : goal.walked-init
-walked-init g c = sym (c.requires.whole.marked.runs c.min-run.result (omega (arith, c.min-run.ensures)) (omega (arith, c.requires.place, c.min-run.ensures)))
+walked-init g c = sym (near c.args.row.now c.args.chain c.requires.whole c.args.chain.run (omega arith) (omega (arith, c.requires.place)))
 
 pub read-number-requires : goal.read-number-requires
 read-number-requires g c =
