@@ -6,6 +6,7 @@ ghost use Rattle.node_link.specs.Rule.{size_of};
 
 use crate::elapsed::since;
 use crate::keys::key;
+use crossbeam_utils::Backoff;
 use delta_codec::{FibMessage, FibOp, Message};
 use flow_types::{Record, Shape};
 use node_link::{SendEnd, TakeEnd, Taken, link, receive, send};
@@ -34,8 +35,11 @@ pub fn figures<R: Print + AllocGlobal + Clock + Threads + Wait + Sync>(rt: &R) -
     let (sender, taker, turns) = one_by_one(rt, sender, taker, shape);
     tell(rt, "links_one_by_one", since(rt, start), turns)?;
     let start = Instant::now(rt);
-    let turns = at_once(rt, sender, taker, shape);
-    tell(rt, "links_from_thread_to_thread", since(rt, start), turns)
+    let (sender, taker, turns) = at_once(rt, sender, taker, shape, false);
+    tell(rt, "links_from_thread_to_thread", since(rt, start), turns)?;
+    let start = Instant::now(rt);
+    let (_sender, _taker, turns) = at_once(rt, sender, taker, shape, true);
+    tell(rt, "links_to_a_taker_that_rests", since(rt, start), turns)
 }
 
 fn tell(rt: &impl Print, name: &str, taken: Duration, turns: u64) -> io::Result<()> {
@@ -94,22 +98,27 @@ fn one_by_one<R: Wait>(
     (sender, taker, turns)
 }
 
-fn send_all<R: Wait>(rt: &R, end: SendEnd, shape: Shape)
+fn send_all<R: Wait>(rt: &R, end: SendEnd, shape: Shape) -> SendEnd
     requires shape { shape ≡ size_of 16 256 }
     requires sender { end.size ≡ shape }
+    ensures { result.size ≡ shape }
 {
     let mut end = end;
     'messages: for number in 0..TIMES {
         if send(rt, &mut end, shape, &message(number)).is_err() {
-            return;
+            break;
         }
     }
+    end
 }
 
-fn take_all<R: Wait>(rt: &R, end: TakeEnd, shape: Shape) -> u64
+/// Takes all messages. Where the link is empty, it looks again at once, or rests for a while that grows.
+fn take_all<R: Wait>(rt: &R, end: TakeEnd, shape: Shape, rests: bool) -> (TakeEnd, u64)
     requires { end.size ≡ shape }
+    ensures { result.0.size ≡ shape }
 {
     let mut end = end;
+    let backoff = Backoff::new();
     let mut turns = 0u64;
     let mut count = 0u64;
     'tries: for _ in 0..TRIES {
@@ -120,26 +129,39 @@ fn take_all<R: Wait>(rt: &R, end: TakeEnd, shape: Shape) -> u64
             if let Some(turn) = turn_of(&taken) {
                 turns = turns.wrapping_add(turn);
                 count += 1;
+                backoff.reset();
+            } else if rests {
+                backoff.snooze();
             }
         }
     }
-    turns
+    (end, turns)
 }
 
 /// Both ends at work.
-fn at_once<R: Threads + Wait + Sync>(rt: &R, sender: SendEnd, taker: TakeEnd, shape: Shape) -> u64
+fn at_once<R: Threads + Wait + Sync>(
+    rt: &R,
+    sender: SendEnd,
+    taker: TakeEnd,
+    shape: Shape,
+    rests: bool,
+) -> (SendEnd, TakeEnd, u64)
     requires shape { shape ≡ size_of 16 256 }
     requires sender { sender.size ≡ shape }
     requires taker { taker.size ≡ shape }
+    ensures sender { result.0.size ≡ shape }
+    ensures taker { result.1.size ≡ shape }
 {
-    let ((), turns) = join(
+    let (sender, (taker, turns)) = join(
         rt,
-        move ||
+        move || -> SendEnd
             requires { (shape ≡ size_of 16 256) × (sender.size ≡ shape) }
+            ensures { result.size ≡ shape }
         { send_all(rt, sender, shape) },
-        move ||
+        move || -> (TakeEnd, u64)
             requires { taker.size ≡ shape }
-        { take_all(rt, taker, shape) },
+            ensures { result.0.size ≡ shape }
+        { take_all(rt, taker, shape, rests) },
     );
-    turns
+    (sender, taker, turns)
 }

@@ -13,6 +13,7 @@ mod cells;
 mod choosing;
 mod elapsed;
 mod fibs;
+mod finding;
 mod keys;
 mod links;
 mod reading;

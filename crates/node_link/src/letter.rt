@@ -25,23 +25,45 @@ pub(crate) fn write(alloc: Global, shape: Shape, message: &Message) -> Result<Le
     requires { Fits shape message.now }
     ensures { IfOk result (λ letter. IsLetter shape letter message.now) }
 {
-    let letter = match encode_short(shape, message) {
-        Some(octets) => SmallVec::from_slice(alloc, octets.as_slice())?,
-        None => SmallVec::from_slice(alloc, encode(shape, message).as_slice())?,
-    };
-    Ok(letter)
+    match encode_short(shape, message) {
+        Some(octets) => Ok(SmallVec::from_slice(alloc, octets.as_slice())?),
+        None => write_long(alloc, shape, message),
+    }
+}
+
+// What a call gives is cleared where the function with the call begins. So the calls that give the longest octets, or a
+// message with room for 64 rows, have functions of their own.
+
+/// The octets of a message with rows.
+#[inline(never)]
+fn write_long(alloc: Global, shape: Shape, message: &Message) -> Result<Letter, OutOfMemory>
+    requires { Fits shape message.now }
+    ensures { IfOk result (λ letter. IsLetter shape letter message.now) }
+{
+    let octets = encode(shape, message);
+    Ok(SmallVec::from_slice(alloc, octets.as_slice())?)
 }
 
 /// The answer with the message that the octets spell. It takes no memory.
+// Inlined down to the caller, an answer is laid down only as far as the caller looks at it.
+#[inline(always)]
 pub(crate) fn read(shape: Shape, letter: Letter) -> Result<Taken, OutOfMemory>
     requires { (message : Message) × IsLetter shape letter message }
     ensures { (message : Message) → IsLetter shape letter message → result ≡ Ok (Item message) }
 {
-    // A message has room for 64 rows. So that a move doesn't copy it, each answer is made last, where it is to lie.
     if let Ok(Some((short, _))) = decode_short(shape, letter.as_slice()) {
         drop(letter);
         return short_item(short);
     }
+    read_long(shape, letter)
+}
+
+/// The same, also for a message with rows.
+#[inline(always)]
+fn read_long(shape: Shape, letter: Letter) -> Result<Taken, OutOfMemory>
+    requires { (message : Message) × IsLetter shape letter message }
+    ensures { (message : Message) → IsLetter shape letter message → result ≡ Ok (Item message) }
+{
     match decode(shape, letter.as_slice()) {
         Ok((message, _)) => Ok(Taken::Item(message)),
         Err(_) => unreachable!(),
@@ -49,7 +71,7 @@ pub(crate) fn read(shape: Shape, letter: Letter) -> Result<Taken, OutOfMemory>
 }
 
 /// The answer with a message without rows.
-#[inline]
+#[inline(always)]
 fn short_item(message: ShortMessage) -> Result<Taken, OutOfMemory>
     ensures { result ≡ Ok (Item (message_of message)) }
 {

@@ -16,6 +16,7 @@ use std::sync::Wait;
 /// Takes the next message, by one pop at most. The shape is the link's.
 ///
 /// It answers `Empty` only where the queue was empty at a step of this call. It takes no memory.
+#[inline(always)]
 pub fn receive<R: Wait>(rt: &R, end: &mut TakeEnd, shape: Shape) -> Result<Taken, OutOfMemory>
     requires shape { end.old.size ≡ shape }
     ensures no_memory { IsOk result }
@@ -39,6 +40,7 @@ pub(crate) fn pop<R: Wait>(rt: &R, queue: &Queue, port: &mut Port) -> Option<Let
 }
 
 /// The answer with the message of what was popped.
+#[inline(always)]
 pub(crate) fn answer(shape: Shape, letter: Option<Letter>) -> Result<Taken, OutOfMemory>
     requires { (before : Log) × (after : Log) × (before.shape ≡ shape) × PopsLetter before letter after }
     ensures no_memory { IsOk result }

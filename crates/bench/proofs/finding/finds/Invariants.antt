@@ -1,5 +1,5 @@
 use Rattle.std.proofs.Common.{◌≡◌}
-use Rattle.bench.proofs.fibs.finds.Given as goal
+use Rattle.bench.proofs.finding.finds.Given as goal
 
 abbrev pub invariant-finds : goal.invariant-finds
 invariant-finds g l = l.reader.opening ≡ l.fn.reader.opening
