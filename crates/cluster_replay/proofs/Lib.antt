@@ -8,11 +8,12 @@ pub mod Turns
 pub mod Carried
 pub mod Answered
 pub mod Held
+pub mod HeldMessages
 pub mod Owners
 pub mod HeldOwners
 pub mod Routing
 pub mod HeldRouting
-pub mod Syncing
+pub mod BroughtUp
 pub mod Replied
 pub mod Sized
 pub mod Opened

@@ -4,6 +4,7 @@ use Rattle.std.proofs.lemmas.Bool.{cases_lt}
 use Rattle.std.proofs.lemmas.List.{get_or_default, get_or_past, length-map}
 use Rattle.flow_types.specs.declared.record.Flow.{Flow}
 use Rattle.flow_types.specs.Size.{Size}
+use Rattle.packet_reader.specs.declared.event.Part.{Part}
 use Rattle.packet_reader.specs.declared.event.Part.TheVariants.{Fib, Table}
 use Rattle.replica_shard.specs.Store.{ShardStore, shard_state_of}
 use Rattle.partial_fib.specs.Store.{FibStore, state_of}
@@ -56,6 +57,16 @@ module _ (size : Size) (flows : List Flow) (owners : List SenderState) (stores :
         (omega (arith, beyond, numbered size.nodes (λ (o : ℕ). (fib_in (get_or nodes node no_node) o).taken)))
   ]
 
+  none_ahead : (part : Part) (node owner : ℕ) → node < size.nodes → owner < owners_in size → turns_taken part takens node owner ≤ length (journal_of (journals_in size owners) owner)
+  none_ahead Table node owner low has =
+      let below = owner_low size flows owners nodes is owner has in
+      let same = journal_is size flows owners nodes is owner below in
+      omega (arith, table_turns_is size flows owners nodes is node low owner below, ((is.each_node node low).tables owner has).sent, ap length same)
+  none_ahead Fib node owner low has =
+      let below = owner_low size flows owners nodes is owner has in
+      let same = journal_is size flows owners nodes is owner below in
+      omega (arith, fib_turns_is size flows owners nodes is node low owner below, ((is.each_node node low).fibs owner has).sent, ap length same)
+
   pub sized_held : IsSized (held size flows owners stores is lacks run)
   unfolding cluster_of taken_in
   sized_held = record {
@@ -65,6 +76,7 @@ module _ (size : Size) (flows : List Flow) (owners : List SenderState) (stores :
         ap (λ (t : Taken). length t.tables) (taken_is size flows owners nodes is node low) ∙ numbered size.nodes (λ (o : ℕ). (shard_in (get_or nodes node no_node) o).taken);
     fibs_many = λ node low.
         ap (λ (t : Taken). length t.fibs) (taken_is size flows owners nodes is node low) ∙ numbered size.nodes (λ (o : ℕ). (fib_in (get_or nodes node no_node) o).taken);
+    none_ahead = none_ahead;
     accepts_nothing = idle_journal;
     no_table_turns = idle_table;
     no_fib_turns = idle_fib;

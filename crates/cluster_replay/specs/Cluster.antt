@@ -12,7 +12,7 @@ use Rattle.partial_fib.specs.Store.{FibStore, state_of}
 use Rattle.delta_codec.specs.declared.message.FibMessage.{FibMessage}
 use Rattle.delta_codec.specs.declared.message.TableMessage.{TableMessage}
 use Rattle.packet_reader.specs.declared.event.Part.{Part}
-use Rattle.replay_model.specs.Carrying.{carry_reply, with_taken}
+use Rattle.replay_model.specs.Carrying.{carry_reply, turns_taken}
 use Rattle.replay_model.specs.State.{ClusterState, Journals, Taken, fib_turns, journal_of, table_turns, taken_by}
 use Rattle.replay_model.specs.declared.reply.Reply.{Reply}
 use Rattle.replay_model.specs.declared.reply.Reply.TheVariants.{Accepted, Applied, Refused}
@@ -140,12 +140,6 @@ with_journals run journals = record run { cluster = record (run.cluster) { journ
 abbrev pub with_nodes : RunState → List Taken → RunState
 with_nodes run nodes = record run { cluster = record (run.cluster) { nodes = nodes } }
 
--- the run where this part of a node has taken all turns of an owner
-abbrev pub with_turns : Part → (node owner : ℕ) → RunState → RunState
-with_turns part node owner run =
-    with_nodes run (slice_set run.cluster.nodes node
-    (with_taken part (taken_by run.cluster.nodes node) owner (length (journal_of run.cluster.journals owner))))
-
 -- what a node has taken that has taken all that was sent
 abbrev pub all_sent : Journals → Taken
 all_sent journals =
@@ -188,12 +182,13 @@ AreOpenedNodes size flows nodes =
 -- ---- sizes
 
 -- there is a node and a journal for each number, and each node has a number of turns for each owner; an owner without a block
--- has accepted nothing, and nobody has taken anything of it
+-- has accepted nothing, and nobody has taken anything of it; nobody has taken more turns than were accepted
 pub record IsSized (run : RunState) : Type 0 where
   pub nodes_many : length run.cluster.nodes ≡ run.cluster.opened.size.nodes
   pub journals_many : length run.cluster.journals ≡ run.cluster.opened.size.nodes
   pub tables_many : (node : ℕ) → node < run.cluster.opened.size.nodes → length (taken_by run.cluster.nodes node).tables ≡ run.cluster.opened.size.nodes
   pub fibs_many : (node : ℕ) → node < run.cluster.opened.size.nodes → length (taken_by run.cluster.nodes node).fibs ≡ run.cluster.opened.size.nodes
+  pub none_ahead : (part : Part) (node owner : ℕ) → node < run.cluster.opened.size.nodes → owner < owners_in run.cluster.opened.size → turns_taken part run.cluster.nodes node owner ≤ length (journal_of run.cluster.journals owner)
   pub accepts_nothing : (owner : ℕ) → owners_in run.cluster.opened.size ≤ owner → length (journal_of run.cluster.journals owner) ≡ 0
   pub no_table_turns : (node owner : ℕ) → node < run.cluster.opened.size.nodes → owners_in run.cluster.opened.size ≤ owner → table_turns run.cluster.nodes node owner ≡ 0
   pub no_fib_turns : (node owner : ℕ) → node < run.cluster.opened.size.nodes → owners_in run.cluster.opened.size ≤ owner → fib_turns run.cluster.nodes node owner ≡ 0

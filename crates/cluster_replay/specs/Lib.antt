@@ -6,4 +6,5 @@ pub mod FirstBad
 pub mod Headline
 pub mod Laws
 pub mod Cluster
+pub mod Turn
 pub mod Dealing

@@ -1,22 +1,19 @@
-ghost use Rattle.std.specs.Prelude.{◌≡◌, ◌<◌, ◌≤◌, IsErr, IsTrue, IfOk, IfSome, OnErr, OnOk, is_err, length, slice_set};
+ghost use Rattle.std.specs.Prelude.{◌≡◌, ◌<◌, IsErr, IsTrue, IfOk, IfSome, OnErr, OnOk, is_err};
 ghost use Rattle.std.specs.Result.{result_ok};
 ghost use Rattle.packet_reader.specs.Form.{IsFormed};
 ghost use Rattle.packet_reader.specs.declared.mode.Mode.TheVariants.{Replay};
-ghost use Rattle.packet_reader.specs.declared.event.Part.TheVariants.{Fib as of_fib, Table as of_table};
-ghost use Rattle.replay_model.specs.Carrying.{after_carry, after_sync, carry_reply, turns_taken};
 ghost use Rattle.replay_model.specs.Packets.{answer_of, packet_reply};
 ghost use Rattle.replay_model.specs.Replaying.{reply_in, state_after};
-ghost use Rattle.replay_model.specs.State.{journal_of};
 ghost use Rattle.replay_model.specs.Updates.{after_update, update_reply};
 ghost use Rattle.replay_model.specs.declared.reply.Reply.TheVariants.{Synced};
-ghost use Rattle.cluster_replay.specs.Cluster.{IsSized, all_sent, owners_in, told_of, with_journals, with_nodes, with_turns};
+ghost use Rattle.cluster_replay.specs.Cluster.{told_of, with_journals};
 ghost use Rattle.rib_owner.specs.Turn.{node_entered};
 
 use crate::node::Node;
 use flow_types::{Flow, FlowKey, Shape};
 use hash_family::place;
 use out_of_memory::OutOfMemory;
-use packet_reader::{Event, Part};
+use packet_reader::Event;
 use partial_fib::FibSeen;
 use replay_model::Reply;
 use rib_owner::{Update, UpdateRefused};
@@ -116,141 +113,6 @@ impl Cluster {
         };
         let found = self.nodes[usize::from(node)].fibs[owner].find(block, group, key);
         answer(node, route.version, found)
-    }
-
-    /// Delivers one message of a turn, where there is such a turn.
-    fn carry(&mut self, node: u8, owner: u8, turn: u32, part: Part) -> Result<Reply, OutOfMemory>
-        requires node { node < self.old.cluster.opened.size.nodes }
-        requires owner { owner < self.old.cluster.opened.size.nodes }
-        requires first { 1 ≤ turn }
-        ensures reply { IfOk result (λ reply. reply ≡ carry_reply (length (journal_of self.old.cluster.journals owner)) (turns_taken part self.old.cluster.nodes node owner) turn) }
-        ensures taken { OnOk result (self.new ≡ with_nodes self.old (after_carry self.old.cluster.journals self.old.cluster.nodes node owner turn part)) }
-        ensures refused { OnErr result (self.new ≡ self.old) }
-    {
-        let Some(sender) = self.owners.get(usize::from(owner)) else {
-            return Ok(Reply::Unsent);
-        };
-        if turn > sender.turns() {
-            return Ok(Reply::Unsent);
-        }
-        self.deliver(node, owner, turn, part)
-    }
-
-    /// Delivers the message of a turn to a node's table or to its FIB.
-    fn deliver(&mut self, node: u8, owner: u8, turn: u32, part: Part) -> Result<Reply, OutOfMemory>
-        requires node { node < self.old.cluster.opened.size.nodes }
-        requires owner { owner < owners_in self.old.cluster.opened.size }
-        requires first { 1 ≤ turn }
-        requires sent { turn ≤ length (journal_of self.old.cluster.journals owner) }
-        ensures reply { IfOk result (λ reply. reply ≡ carry_reply (length (journal_of self.old.cluster.journals owner)) (turns_taken part self.old.cluster.nodes node owner) turn) }
-        ensures taken { OnOk result (self.new ≡ with_nodes self.old (after_carry self.old.cluster.journals self.old.cluster.nodes node owner turn part)) }
-        ensures refused { OnErr result (self.new ≡ self.old) }
-    {
-        match part {
-            Part::Table => Ok(self.carry_table(node, owner, turn)),
-            Part::Fib => self.carry_fib(node, owner, turn),
-        }
-    }
-
-    /// Delivers the message of a turn to a node's table.
-    fn carry_table(&mut self, node: u8, owner: u8, turn: u32) -> Reply
-        requires node { node < self.old.cluster.opened.size.nodes }
-        requires owner { owner < owners_in self.old.cluster.opened.size }
-        requires first { 1 ≤ turn }
-        requires sent { turn ≤ length (journal_of self.old.cluster.journals owner) }
-        ensures reply { result ≡ carry_reply (length (journal_of self.old.cluster.journals owner)) (turns_taken of_table self.old.cluster.nodes node owner) turn }
-        ensures taken { self.new ≡ with_nodes self.old (after_carry self.old.cluster.journals self.old.cluster.nodes node owner turn of_table) }
-    {
-        let message = self.owners[usize::from(owner)].table_message(turn);
-        self.nodes[usize::from(node)].take_table(&message)
-    }
-
-    /// Delivers the message of a turn to a node's FIB.
-    fn carry_fib(&mut self, node: u8, owner: u8, turn: u32) -> Result<Reply, OutOfMemory>
-        requires node { node < self.old.cluster.opened.size.nodes }
-        requires owner { owner < owners_in self.old.cluster.opened.size }
-        requires first { 1 ≤ turn }
-        requires sent { turn ≤ length (journal_of self.old.cluster.journals owner) }
-        ensures reply { IfOk result (λ reply. reply ≡ carry_reply (length (journal_of self.old.cluster.journals owner)) (turns_taken of_fib self.old.cluster.nodes node owner) turn) }
-        ensures taken { OnOk result (self.new ≡ with_nodes self.old (after_carry self.old.cluster.journals self.old.cluster.nodes node owner turn of_fib)) }
-        ensures refused { OnErr result (self.new ≡ self.old) }
-    {
-        let message = self.owners[usize::from(owner)].fib_message(turn, node);
-        self.nodes[usize::from(node)].take_fib(&message)
-    }
-
-    /// Delivers all messages that are missing, to every node.
-    fn sync(&mut self) -> Result<(), OutOfMemory>
-        ensures { OnOk result (self.new ≡ with_nodes self.old (after_sync self.old.cluster.journals self.old.cluster.nodes)) }
-    {
-        'nodes: for node in 0..self.node_count() {
-            self.bring_up(node)?;
-        }
-        Ok(())
-    }
-
-    /// Delivers all messages that a node is missing.
-    fn bring_up(&mut self, node: u8) -> Result<(), OutOfMemory>
-        requires node { node < self.old.cluster.opened.size.nodes }
-        ensures { OnOk result (self.new ≡ with_nodes self.old (slice_set self.old.cluster.nodes node (all_sent self.old.cluster.journals))) }
-    {
-        'owners: for owner in 0..self.owner_count() {
-            self.bring_up_part(node, owner, Part::Table)?;
-            self.bring_up_part(node, owner, Part::Fib)?;
-        }
-        Ok(())
-    }
-
-    /// Delivers an owner's messages that a node's table or its FIB is missing.
-    fn bring_up_part(&mut self, node: u8, owner: u8, part: Part) -> Result<(), OutOfMemory>
-        requires node { node < self.old.cluster.opened.size.nodes }
-        requires owner { owner < owners_in self.old.cluster.opened.size }
-        ensures { OnOk result (self.new ≡ with_turns part node owner self.old) }
-    {
-        let (taken, sent) = (self.turns(node, owner, part), self.sent_turns(owner));
-        'turns: for turn in taken..sent {
-            self.deliver(node, owner, turn + 1, part)?;
-        }
-        Ok(())
-    }
-
-    /// How many nodes there are.
-    fn node_count(&self) -> u8
-        ensures count { result ≡ self.now.cluster.opened.size.nodes }
-        ensures sized { IsSized self.now }
-    {
-        self.shape.nodes() as u8
-    }
-
-    /// How many owners have a block.
-    fn owner_count(&self) -> u8
-        ensures count { result ≡ owners_in self.now.cluster.opened.size }
-        ensures sized { IsSized self.now }
-    {
-        self.owners.len() as u8
-    }
-
-    /// How many turns an owner has accepted.
-    fn sent_turns(&self, owner: u8) -> u32
-        requires { owner < owners_in self.now.cluster.opened.size }
-        ensures { result ≡ length (journal_of self.now.cluster.journals owner) }
-    {
-        self.owners[usize::from(owner)].turns()
-    }
-
-    /// How many of an owner's turns a node's table or its FIB has taken.
-    fn turns(&self, node: u8, owner: u8, part: Part) -> u32
-        requires node { node < self.now.cluster.opened.size.nodes }
-        requires owner { owner < owners_in self.now.cluster.opened.size }
-        ensures taken { result ≡ turns_taken part self.now.cluster.nodes node owner }
-        ensures sent { result ≤ length (journal_of self.now.cluster.journals owner) }
-        ensures sized { IsSized self.now }
-    {
-        let node = &self.nodes[usize::from(node)];
-        match part {
-            Part::Table => node.tables[usize::from(owner)].taken(),
-            Part::Fib => node.fibs[usize::from(owner)].taken(),
-        }
     }
 }
 

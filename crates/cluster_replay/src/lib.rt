@@ -11,6 +11,7 @@
 #![tactic(auto)]
 
 mod answering;
+mod carrying;
 mod cluster;
 mod dealing;
 mod fault;
@@ -19,6 +20,7 @@ mod node;
 mod opening;
 mod reading;
 mod replaying;
+mod syncing;
 mod table;
 
 pub use cluster::Cluster;

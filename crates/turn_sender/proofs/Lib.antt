@@ -6,3 +6,4 @@ pub mod Kept
 pub mod Growing
 pub mod Accepting
 pub mod Reading
+pub mod ShortFib

@@ -6,11 +6,12 @@ ghost use Rattle.delta_codec.specs.declared.message.Message.{Message};
 ghost use Rattle.delta_codec.specs.declared.message.Message.TheVariants.{Fib, Table};
 ghost use Rattle.delta_codec.specs.declared.message.TableMessage.{TableMessage};
 ghost use Rattle.delta_codec.specs.Fits.{Fits};
+ghost use Rattle.delta_codec.specs.Short.{message_of};
 ghost use Rattle.delta_codec.specs.Spelling.{spelling};
 ghost use Rattle.delta_codec.specs.Values.{IsMessage};
 ghost use Rattle.turn_sender.specs.Sent.{AreAppended, IsSpelledAt};
 
-use delta_codec::{FibMessage, Message, TableMessage, decode, encode};
+use delta_codec::{FibMessage, Message, ShortMessage, TableMessage, decode, decode_short, encode};
 use flow_types::Shape;
 
 /// Puts a message behind the octets, which have room for it, and tells where it begins. It takes no memory.
@@ -55,8 +56,23 @@ pub(crate) fn fib_at(shape: Shape, octets: &[u8], at: usize) -> FibMessage
     requires { (message : FibMessage) × IsSpelledAt shape octets.now at (Fib message) }
     ensures { (message : FibMessage) → IsSpelledAt shape octets.now at (Fib message) → result ≡ message }
 {
-    match message_at(shape, octets, at) {
-        Message::Fib(message) => message,
-        Message::Table(_) => unreachable!(),
+    // A `Message` has room for 64 rows, which none of a FIB's has.
+    let Ok(read) = decode_short(shape, &octets[at..]) else {
+        unreachable!()
+    };
+    let Some((short, _)) = read else {
+        unreachable!()
+    };
+    fib_of(short)
+}
+
+/// The FIB message that a message without rows is.
+fn fib_of(short: ShortMessage) -> FibMessage
+    requires { (message : FibMessage) × (message_of short ≡ Fib message) }
+    ensures { (message : FibMessage) → message_of short ≡ Fib message → result ≡ message }
+{
+    match short {
+        ShortMessage::Fib(message) => message,
+        ShortMessage::Table(_) => unreachable!(),
     }
 }

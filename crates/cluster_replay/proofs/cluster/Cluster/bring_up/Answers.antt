@@ -1,27 +1,41 @@
-use Rattle.std.proofs.Common.{◌≡◌, ◌∙◌, ◌<◌, ℕ, ap, subst, arith}
-use Rattle.packet_reader.specs.declared.event.Part.TheVariants.{Fib}
-use Rattle.cluster_replay.specs.Cluster.{owners_in, with_turns}
-use Rattle.cluster_replay.proofs.Syncing.{IsBroughtUp, all_brought, both_there, node_there, none_yet, one_more_owner}
+use Rattle.std.proofs.Common.{◌≡◌, ◌∙◌, ◌+◌, ◌<◌, ◌≤◌, ℕ, length, sym, ap, subst, arith}
+use Rattle.replay_model.specs.Carrying.{turns_taken}
+use Rattle.replay_model.specs.State.{journal_of}
+use Rattle.cluster_replay.specs.Cluster.{RunState, owners_in}
+use Rattle.cluster_replay.specs.Turn.{with_turns}
+use Rattle.cluster_replay.proofs.BroughtUp.{first_turns, next_turns, then_taken}
 use Rattle.cluster_replay.proofs.cluster.Cluster.bring_up.Goals as goal
 
-pub owners-init : goal.owners-init
-owners-init c = record { told = none_yet c.args.self.now c.args.node; within = omega arith }
+pub turns-init : goal.turns-init
+turns-init c = record {
+  at = first_turns c.args.self.now c.least_taken-taken.ensures.sized c.args.part c.args.owner c.requires c.least_taken-taken.result c.least_taken-taken.ensures.taken;
+  within = omega (arith, c.least_taken-taken.ensures.sent, c.sent_turns-sent.ensures);
+}
 
-pub owners-preserved : goal.owners-preserved
-owners-preserved c =
-    let run = c.args.self.now in
-    let sized = c.owner_count-owner-end.ensures.sized in
-    let has : c.owners.owner < owners_in run.cluster.opened.size = omega (arith, c.owners-test.true, c.owner_count-owner-end.ensures.count) in
-    record {
-      told =
-          one_more_owner run c.args.node c.owners.owner c.owners.self c.owners.invariant.told (node_there run sized c.args.node c.requires.node)
-          (both_there run sized c.args.node c.owners.owner c.requires.node has) c.bring_up_part-in-owners.new.self
-          (c.in_ok-bring_up_part-2.ensures ∙ ap (with_turns Fib c.args.node c.owners.owner) c.in_ok-bring_up_part.ensures);
-      within = omega (arith, has);
-    }
+pub tell-requires-clause-owner : goal.tell-requires-clause-owner
+tell-requires-clause-owner c = subst (λ (r : RunState). c.args.owner < owners_in r.cluster.opened.size) (sym c.turns.invariant.at) c.requires
+
+pub tell-requires-clause-sent : goal.tell-requires-clause-sent
+tell-requires-clause-sent c =
+    subst (λ (r : RunState). c.turns.turn + 1 ≤ length (journal_of r.cluster.journals c.args.owner)) (sym c.turns.invariant.at) (omega (arith, c.turns-test.true, c.sent_turns-sent.ensures))
+
+pub tell-requires-clause-next : goal.tell-requires-clause-next
+tell-requires-clause-next c =
+    subst (λ (r : RunState). (node : ℕ) → node < r.cluster.opened.size.nodes → c.turns.turn + 1 ≤ turns_taken c.args.part r.cluster.nodes node c.args.owner + 1) (sym c.turns.invariant.at)
+    (λ node low.
+    let enough = then_taken c.args.self.now c.least_taken-taken.ensures.sized c.args.part c.args.owner c.requires c.turns.turn node low in
+    omega (arith, enough))
+
+pub turns-preserved : goal.turns-preserved
+turns-preserved c = record {
+  at =
+      c.in_ok-tell.ensures ∙ ap (with_turns c.args.part c.args.owner (c.turns.turn + 1)) c.turns.invariant.at
+      ∙ next_turns c.args.self.now c.least_taken-taken.ensures.sized c.args.part c.args.owner c.requires c.turns.turn;
+  within = omega (arith, c.turns-test.true);
+}
 
 pub returns : goal.returns
 returns c =
-    let run = c.args.self.now in
-    let all : c.owners.owner ≡ owners_in run.cluster.opened.size = omega (arith, c.owners.invariant.within, c.owners-test.false, c.owner_count-owner-end.ensures.count) in
-    all_brought run c.owner_count-owner-end.ensures.sized c.args.node c.owners.self c.requires.node (subst (λ (n : ℕ). IsBroughtUp run c.args.node n c.owners.self) all c.owners.invariant.told)
+    c.turns.invariant.at
+    ∙ ap (λ (turn : ℕ). with_turns c.args.part c.args.owner turn c.args.self.now)
+    (let all : c.turns.turn ≡ length (journal_of c.args.self.now.cluster.journals c.args.owner) = omega (arith, c.turns.invariant.within, c.turns-test.false, c.sent_turns-sent.ensures) in all)

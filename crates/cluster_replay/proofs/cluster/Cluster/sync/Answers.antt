@@ -1,23 +1,36 @@
-use Rattle.std.proofs.Common.{◌≡◌, ◌<◌, ℕ, length, subst, arith}
-use Rattle.cluster_replay.proofs.Syncing.{AreBroughtUp, all_brought_up, no_node_yet, one_more_node}
+use Rattle.std.proofs.Common.{◌≡◌, ◌∙◌, ◌<◌, ℕ, length, sym, ap, subst, arith}
+use Rattle.packet_reader.specs.declared.event.Part.TheVariants.{Fib}
+use Rattle.replay_model.specs.State.{journal_of}
+use Rattle.cluster_replay.specs.Cluster.{RunState, owners_in}
+use Rattle.cluster_replay.specs.Turn.{with_turns}
+use Rattle.cluster_replay.proofs.BroughtUp.{AreBroughtUp, all_brought_up, none_yet, one_more_owner}
 use Rattle.cluster_replay.proofs.cluster.Cluster.sync.Goals as goal
 
-pub nodes-init : goal.nodes-init
-nodes-init c = record { told = no_node_yet c.args.self.now; within = omega arith }
+pub owners-init : goal.owners-init
+owners-init c = record { told = none_yet c.args.self.now; within = omega arith }
 
-pub nodes-preserved : goal.nodes-preserved
-nodes-preserved c =
+pub bring_up-requires : goal.bring_up-requires
+bring_up-requires c =
+    subst (λ (r : RunState). c.owners.owner < owners_in r.cluster.opened.size) (sym c.owners.invariant.told.others) (omega (arith, c.owners-test.true, c.owner_count-owner-end.ensures.count))
+
+pub bring_up-requires-in-owners : goal.bring_up-requires-in-owners
+bring_up-requires-in-owners c =
+    subst (λ (r : RunState). c.owners.owner < owners_in r.cluster.opened.size) (sym c.in_ok-bring_up.ensures)
+    (subst (λ (r : RunState). c.owners.owner < owners_in r.cluster.opened.size) (sym c.owners.invariant.told.others) (omega (arith, c.owners-test.true, c.owner_count-owner-end.ensures.count)))
+
+pub owners-preserved : goal.owners-preserved
+owners-preserved c =
     let run = c.args.self.now in
-    let sized = c.node_count-node-end.ensures.sized in
-    let low : c.nodes.node < length run.cluster.nodes = omega (arith, c.nodes-test.true, c.node_count-node-end.ensures.count, sized.nodes_many) in
+    let has : c.owners.owner < owners_in run.cluster.opened.size = omega (arith, c.owners-test.true, c.owner_count-owner-end.ensures.count) in
     record {
-      told = one_more_node run c.nodes.node c.nodes.self c.nodes.invariant.told low c.bring_up.new.self c.in_ok-bring_up.ensures;
-      within = omega (arith, low, sized.nodes_many);
+      told =
+          one_more_owner run c.owner_count-owner-end.ensures.sized c.owners.owner has c.owners.self c.owners.invariant.told c.bring_up-in-owners.new.self
+          (c.in_ok-bring_up-2.ensures ∙ ap (λ (r : RunState). with_turns Fib c.owners.owner (length (journal_of r.cluster.journals c.owners.owner)) r) c.in_ok-bring_up.ensures);
+      within = omega (arith, has);
     }
 
 pub returns : goal.returns
 returns c =
     let run = c.args.self.now in
-    let sized = c.node_count-node-end.ensures.sized in
-    let all : c.nodes.node ≡ length run.cluster.nodes = omega (arith, c.nodes.invariant.within, c.nodes-test.false, c.node_count-node-end.ensures.count, sized.nodes_many) in
-    all_brought_up run c.nodes.self (subst (λ (n : ℕ). AreBroughtUp run n c.nodes.self) all c.nodes.invariant.told)
+    let all : c.owners.owner ≡ owners_in run.cluster.opened.size = omega (arith, c.owners.invariant.within, c.owners-test.false, c.owner_count-owner-end.ensures.count) in
+    all_brought_up run c.owner_count-owner-end.ensures.sized c.owners.self (subst (λ (n : ℕ). AreBroughtUp run n c.owners.self) all c.owners.invariant.told)

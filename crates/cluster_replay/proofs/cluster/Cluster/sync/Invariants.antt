@@ -1,9 +1,10 @@
 use Rattle.std.proofs.Common.{◌≤◌}
-use Rattle.cluster_replay.proofs.Syncing.{AreBroughtUp}
+use Rattle.cluster_replay.specs.Cluster.{owners_in}
+use Rattle.cluster_replay.proofs.BroughtUp.{AreBroughtUp}
 use Rattle.cluster_replay.proofs.cluster.Cluster.sync.Given as goal
 
-abbrev pub invariant-nodes : goal.invariant-nodes
-invariant-nodes l = record {
-  told : AreBroughtUp l.fn.self l.node l.self;
-  within : l.node ≤ l.fn.self.cluster.opened.size.nodes;
+abbrev pub invariant-owners : goal.invariant-owners
+invariant-owners l = record {
+  told : AreBroughtUp l.fn.self l.owner l.self;
+  within : l.owner ≤ owners_in l.fn.self.cluster.opened.size;
 }
