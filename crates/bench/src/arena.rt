@@ -130,6 +130,17 @@ fn openings_of_lists(alloc: Global) -> u32 {
     opened
 }
 
+/// The sum of an item's words: an owner reads most of a flow, and a loop over first words alone is unrolled otherwise over an
+/// arena than over vectors.
+fn folded(item: Item) -> u32 {
+    let [a, b, c, d, e, f] = item;
+    a.wrapping_add(b)
+        .wrapping_add(c)
+        .wrapping_add(d)
+        .wrapping_add(e)
+        .wrapping_add(f)
+}
+
 /// Looks at places of buckets, both drawn.
 fn looks(arena: &Arena<Item>) -> u32 {
     let mut sum = 0u32;
@@ -138,7 +149,7 @@ fn looks(arena: &Arena<Item>) -> u32 {
         let bucket = (drawn % 256) as u8;
         let len = arena.len(bucket);
         if len > 0 {
-            sum = sum.wrapping_add(arena.at(bucket, drawn / 256 % len)[0]);
+            sum = sum.wrapping_add(folded(arena.at(bucket, drawn / 256 % len)));
         }
     }
     sum
@@ -152,7 +163,7 @@ fn looks_in_lists(lists: &[Vec<Item>]) -> u32
         let drawn = draw(number);
         let list = lists[(drawn % 256) as usize].as_slice();
         if list.len() > 0 {
-            sum = sum.wrapping_add(list[(drawn / 256) as usize % list.len()][0]);
+            sum = sum.wrapping_add(folded(list[(drawn / 256) as usize % list.len()]));
         }
     }
     sum
@@ -165,7 +176,7 @@ fn gathered(arena: &Arena<Item>) -> u32 {
         let group = (draw(number) % 64) as u8;
         'buckets: for quarter in 0..4u8 {
             'items: for item in arena.iter(64 * quarter + group) {
-                sum = sum.wrapping_add(item[0]);
+                sum = sum.wrapping_add(folded(item));
             }
         }
     }
@@ -180,7 +191,7 @@ fn gathered_of_lists(lists: &[Vec<Item>]) -> u32
         let group = (draw(number) % 64) as usize;
         'buckets: for quarter in 0..4usize {
             'items: for item in lists[64 * quarter + group].as_slice() {
-                sum = sum.wrapping_add(item[0]);
+                sum = sum.wrapping_add(folded(*item));
             }
         }
     }
