@@ -1,5 +1,5 @@
 -- What a turn makes of the entries: each key has what the turn means for it, and none has two.
-use Rattle.std.proofs.Common.{ℕ, ◌≡◌, ◌∙◌, Bool, true, false, cond, List, [], ◌∷◌, ◌++◌, position, Option, None, Some, refl, sym, ap, subst}
+use Rattle.std.proofs.Common.{ℕ, ◌≡◌, ◌∙◌, Bool, true, false, cond, List, [], ◌∷◌, position, Option, None, Some, refl, sym, ap, subst}
 use Rattle.std.proofs.lemmas.Bool.{true≢false}
 use Rattle.std.proofs.lemmas.Map.Keys.{IsDistinct-push}
 use Rattle.std.proofs.lemmas.Option.{slice_get-get_or}
@@ -9,8 +9,8 @@ use Rattle.std.specs.Map.{keys_of, lookup}
 use Rattle.std.specs.Prelude.{get_or}
 use Rattle.indexmap.specs.IndexMap.{insert_entry, swap_remove_entry}
 use Rattle.indexmap.specs.IndexSet.{insert_key}
-use Rattle.indexmap.proofs.MapLemmas.{Found-position, Missing-position, swap_remove_entry-found, swap_remove_entry-missing}
-use Rattle.indexmap.proofs.RemoveLemmas.{Out, none_out, swap_out}
+use Rattle.indexmap.proofs.MapLemmas.{Found-position, swap_remove_entry-found, swap_remove_entry-missing}
+use Rattle.indexmap.proofs.RemoveLemmas.{none_out, swap_out}
 use Rattle.indexmap.proofs.SetLemmas.{keys_insert_entry}
 use Rattle.flow_types.specs.declared.key.FlowKey.{FlowKey}
 use Rattle.flow_types.specs.declared.record.Record.{Record}

@@ -2,7 +2,6 @@
 use Rattle.std.proofs.Common.{◌≡◌, ◌≢◌, ℕ, ◌+◌, List, [], ◌∷◌, ◌++◌, Option, None, Some, set, refl, sym, ap, subst, ⊎_elim, ◌∙◌, fold}
 use Rattle.std.specs.Prelude.{replicate}
 use Rattle.std.proofs.lemmas.List.{replicate-append-replicate}
-use mathlib.Core.List.{IsPrefix}
 use mathlib.Core.Option as maybe
 use lib.ListN.{get_elem?}
 use Rattle.left_right.specs.Register.{Admits, TurnsAt, Forks, Merges}

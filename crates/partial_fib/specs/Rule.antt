@@ -4,7 +4,6 @@ use Rattle.std.specs.Prelude.{⊤, ℕ, ◌≡◌, List, Option, None, Some}
 use mathlib.Core.List.{IsPrefix}
 use mathlib.Core.Option as maybe
 use lib.ListN.{get_elem?}
-use Rattle.delta_codec.specs.declared.message.FibMessage.{FibMessage}
 use Rattle.partial_fib.specs.declared.sharing.shown.Shown.{Shown}
 use Rattle.partial_fib.specs.declared.sharing.turn.Turn.{Turn}
 use Rattle.partial_fib.specs.Ends.{shared_after}

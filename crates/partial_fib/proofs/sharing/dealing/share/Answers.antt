@@ -1,5 +1,4 @@
-use Rattle.std.proofs.Common.{◌≡◌, ◌∙◌, sym, ap, refl, subst, arith}
-use Rattle.partial_fib.specs.declared.sharing.shown.Shown.{Shown}
+use Rattle.std.proofs.Common.{◌∙◌, sym, ap, refl, subst, arith}
 use Rattle.partial_fib.specs.Rule.{IsRight}
 use Rattle.partial_fib.specs.Store.{FibStore, IsUnturned}
 use Rattle.partial_fib.proofs.Keeping.{right_at_first}

@@ -1,4 +1,4 @@
-use Rattle.std.proofs.Common.{◌≡◌, ◌∙◌, sym, ap, subst, List, length}
+use Rattle.std.proofs.Common.{◌∙◌, ap, subst, List}
 use mathlib.Core.List.{IsPrefix}
 use Rattle.delta_codec.specs.declared.message.FibMessage.{FibMessage}
 use Rattle.partial_fib.proofs.Prefixes.{prefix_same}

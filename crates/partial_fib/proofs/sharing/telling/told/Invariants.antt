@@ -1,4 +1,3 @@
-use Rattle.std.proofs.Common.{◌≡◌}
 use Rattle.partial_fib.specs.Ends.{IsLater}
 use Rattle.partial_fib.proofs.sharing.telling.told.Given as goal
 

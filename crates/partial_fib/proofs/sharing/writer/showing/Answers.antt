@@ -1,4 +1,4 @@
-use Rattle.std.proofs.Common.{◌≡◌, ◌∙◌, ◌++◌, ◌∷◌, [], sym, ap, subst}
+use Rattle.std.proofs.Common.{◌∙◌, ◌++◌, ◌∷◌, [], sym, ap, subst}
 use Rattle.partial_fib.specs.declared.sharing.shown.Shown.{Shown}
 use Rattle.partial_fib.specs.Message.{FibMessageFits}
 use Rattle.partial_fib.proofs.Keeping.{IsNext, steps}

@@ -1,4 +1,4 @@
-use Rattle.std.proofs.Common.{◌≡◌, ◌∙◌, sym, ap, subst, Some, arith, length}
+use Rattle.std.proofs.Common.{◌∙◌, sym, ap, subst, length}
 use Rattle.partial_fib.specs.Ends.{There}
 use Rattle.partial_fib.specs.Rule.{opening_of}
 use Rattle.partial_fib.proofs.Keeping.{before_one}

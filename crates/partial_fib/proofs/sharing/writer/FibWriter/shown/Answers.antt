@@ -1,8 +1,7 @@
-use Rattle.std.proofs.Common.{◌≡◌, ◌∙◌, sym, ap, subst, length}
+use Rattle.std.proofs.Common.{◌∙◌, ap, subst, length}
 use Rattle.partial_fib.specs.Ends.{There, WriterState}
 use Rattle.partial_fib.specs.History.{shared_fib}
 use Rattle.partial_fib.specs.Rule.{opening_of}
-use Rattle.partial_fib.specs.Store.{FibStore}
 use Rattle.partial_fib.proofs.TurnSteps.{taken_is_length}
 use Rattle.partial_fib.proofs.sharing.writer.FibWriter.shown.Goals as goal
 
