@@ -1,10 +1,10 @@
 //! Looks at groups that are rewritten in place, and publications, by one thread and by several.
 
 ghost use Rattle.std.specs.Prelude.{◌≡◌, ◌+◌, ◌<◌, ◌≤◌, All, IfOk, IfSome, length, sum_by};
-ghost use Rattle.flow_types.specs.Size.{value_bits};
 ghost use Rattle.group_search.specs.Canon.{rows_in};
 ghost use Rattle.group_search.specs.Image.{Image};
 ghost use Rattle.group_search.specs.Words.{HasBits};
+ghost use Rattle.group_cell.specs.Rule.{HasNodes};
 ghost use Rattle.group_cell.specs.Seats.{IsReaderOf, IsWriterOf, opened_with, published};
 
 use crate::elapsed::since;
@@ -58,7 +58,7 @@ pub fn figures<R: Print + AllocGlobal + Clock + Threads + Sync>(rt: &R) -> io::R
 pub fn opened(alloc: Global) -> io::Result<Option<(CellTable, WriterSeat)>>
     ensures writer { IfOk result (λ found. IfSome found (λ made. IsWriterOf made.0 made.1)) }
     ensures blocks { IfOk result (λ found. IfSome found (λ made. length (opened_with made.0).images ≡ 256)) }
-    ensures bits { IfOk result (λ found. IfSome found (λ made. value_bits (opened_with made.0).size.nodes ≡ 4)) }
+    ensures nodes { IfOk result (λ found. IfSome found (λ made. (opened_with made.0).size.nodes ≡ 16)) }
     ensures few { IfOk result (λ found. IfSome found (λ made. length (published made.1) ≡ 0)) }
 {
     let Some(shape) = Shape::new(16, 256) else {
@@ -105,7 +105,7 @@ pub fn looks(rt: &impl Clock, table: &CellTable, mut reader: ReaderSeat) -> Run
 fn publications(rt: &impl Clock, table: &CellTable, mut writer: WriterSeat) -> (WriterSeat, Run)
     requires writer { IsWriterOf table.now writer }
     requires blocks { length (opened_with table.now).images ≡ 256 }
-    requires bits { value_bits (opened_with table.now).size.nodes ≡ 4 }
+    requires nodes { (opened_with table.now).size.nodes ≡ 16 }
     requires few { length (published writer) + 5000000 < 4294967295 }
     ensures writer { IsWriterOf table.now result.0 }
     ensures count { length (published result.0) ≤ length (published writer) + 5000000 }
@@ -152,7 +152,7 @@ pub fn beside<R: Threads + Clock + Sync>(
     requires writer { IsWriterOf table.now writer }
     requires one { IsReaderOf table.now one }
     requires blocks { length (opened_with table.now).images ≡ 256 }
-    requires bits { value_bits (opened_with table.now).size.nodes ≡ 4 }
+    requires nodes { (opened_with table.now).size.nodes ≡ 16 }
     requires few { length (published writer) + 5000000 < 4294967295 }
     ensures writer { IsWriterOf table.now result.0.0 }
     ensures count { length (published result.0.0) ≤ length (published writer) + 5000000 }
@@ -169,6 +169,7 @@ fn images(alloc: Global) -> Result<Vec<BlockImage>, AllocError>
     ensures count { IfOk result (λ all. length all.items ≡ 256) }
     ensures rows { IfOk result (λ all. All (λ (image : Image). sum_by rows_in image.records ≤ 64) all.items) }
     ensures bits { IfOk result (λ all. All (λ (image : Image). All (HasBits 4) image.records) all.items) }
+    ensures in_cluster { IfOk result (λ all. All (λ (image : Image). All (HasNodes 16) image.records) all.items) }
 {
     let mut all = Vec::new(alloc);
     'images: for block in 0..256u64 {
@@ -180,6 +181,7 @@ fn images(alloc: Global) -> Result<Vec<BlockImage>, AllocError>
 fn image(alloc: Global, seed: u64) -> Result<BlockImage, AllocError>
     ensures rows { IfOk result (λ image. sum_by rows_in image.records ≤ 64) }
     ensures bits { IfOk result (λ image. All (HasBits 4) image.records) }
+    ensures in_cluster { IfOk result (λ image. All (HasNodes 16) image.records) }
 {
     let mut records = Vec::new(alloc);
     'records: for number in 0..64u8 {
@@ -190,6 +192,7 @@ fn image(alloc: Global, seed: u64) -> Result<BlockImage, AllocError>
 
 fn served(seed: u64) -> GroupRecord
     ensures bits { HasBits 4 result }
+    ensures in_cluster { HasNodes 16 result }
     ensures rows { rows_in result ≡ 0 }
 {
     let pair = |drawn: u64| Pair {

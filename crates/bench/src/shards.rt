@@ -3,6 +3,7 @@ ghost use Rattle.std.specs.Prelude.{◌≡◌, All};
 ghost use Rattle.flow_types.specs.declared.record.Flow.{Flow};
 ghost use Rattle.group_search.specs.Build.{IsBuild};
 ghost use Rattle.group_search.specs.Owned.{IsOwned};
+ghost use Rattle.group_search.specs.Records.{AreHandled};
 ghost use Rattle.replica_shard.specs.Seats.{IsShardReaderOf, IsShardWriterOf};
 
 use crate::building;
@@ -29,7 +30,8 @@ pub fn figures(
     images: &[BlockImage],
     flows: &[Flow],
 ) -> io::Result<()>
-    requires { IsBuild shape flows.now images.now }
+    requires built { IsBuild shape flows.now images.now }
+    requires handled { AreHandled shape.nodes flows.now }
 {
     let owned = building::owned(rt.alloc(), shape, flows)?;
     let Ok(plan) = ShardPlan::of(rt.alloc(), shape, 0, images) else {

@@ -1,5 +1,5 @@
 -- The node that a look answers is the one that the record gives.
-use Rattle.std.proofs.Common.{◌≡◌, ℕ, zero, suc, ◌+◌, ◌/◌, ◌%◌, ◌^◌, ◌<◌, ◌≤◌, List, [], ◌∷◌, ◌++◌, length, get_or, set, append_assoc, le_refl, refl, sym, ap, ◌∙◌, subst, arith, if◌then◌else◌, eq-eqb, Bool, Option, Some, None, get_or-set_other, get_or-set_same}
+use Rattle.std.proofs.Common.{◌≡◌, ℕ, zero, suc, ◌+◌, ◌/◌, ◌%◌, ◌^◌, ◌<◌, ◌≤◌, List, [], ◌∷◌, ◌++◌, length, get_or, set, append_assoc, le_refl, refl, sym, ap, ◌∙◌, subst, arith, if◌then◌else◌, eq-eqb, Bool, Option, Some, None, IfSome, get_or-set_other, get_or-set_same}
 use mathlib.Core.Logic.{dite}
 use native.Mathlib.Decide.{ℕ_discrete}
 use Rattle.atomic_table.specs.Table.{Me}
@@ -20,9 +20,10 @@ use Rattle.group_cell.specs.declared.view.ReaderView.{ReaderView}
 use Rattle.group_cell.specs.declared.view.View.{View}
 use Rattle.group_cell.specs.Opening.{Opened}
 use Rattle.group_cell.specs.Layout.{address, data_word, datum}
-use Rattle.group_cell.specs.Rule.{HasLoad, HasLoaded, Holds, bits_of, latest}
+use Rattle.group_cell.specs.Rule.{HasLoad, HasLoaded, Holds, IsEven, nodes_of, latest}
 use Rattle.group_cell.specs.Plays.{reader_view, IsReader, load, begun_look, ended_in, looked}
 use Rattle.group_cell.specs.Seating.{Place, GoesOn, HasBegun, IsLooking, IsFound, Reads, StandsFound, RowsGive, data_loads, forgotten, last_look, loads_of, look_in, the_look}
+use Rattle.group_cell.proofs.Below.{answer_below}
 use Rattle.group_cell.proofs.Finding.{gives, loads_last, loads_more, stands_found}
 
 two_items : (words : List ℕ) (content : GroupRecord) → length words ≡ 2 → ((j : ℕ) → j < 2 → get_or words j 0 ≡ get_or (words_of content) j 0) → words ≡ words_of content
@@ -33,26 +34,26 @@ two_items (a ∷ b ∷ []) (Fallback rows) two each = λ i. each 0 (omega arith)
 two_items (a ∷ b ∷ c ∷ words) content two each = absurd (omega arith)
 
 -- the first data word of a record with rows says so
-rows_given : (bits : ℕ) (ws : List ℕ) (at : Home) (content : GroupRecord) (words : List ℕ) (key : FlowKey) (found : Option ℕ) → Holds bits ws at content → words ≡ words_of content
+rows_given : (nodes : ℕ) (ws : List ℕ) (at : Home) (content : GroupRecord) (words : List ℕ) (key : FlowKey) (found : Option ℕ) → Holds nodes ws at content → words ≡ words_of content
     → (2 ^ 48 ≤ get_or words 0 0 → StandsFound ws at 64 key found) → RowsGive content key found
-rows_given bits ws at (Served pairs) words key found h same stands = tt
-rows_given bits ws at (Fallback rows) words key found h same stands =
-    gives bits ws at (Fallback rows) key found h (stands (let e : get_or words 0 0 ≡ 2 ^ 48 + length rows = ap (λ (l : List ℕ). get_or l 0 0) same in omega arith))
+rows_given nodes ws at (Served pairs) words key found h same stands = tt
+rows_given nodes ws at (Fallback rows) words key found h same stands =
+    gives nodes ws at (Fallback rows) key found h (stands (let e : get_or words 0 0 ≡ 2 ^ 48 + length rows = ap (λ (l : List ℕ). get_or l 0 0) same in omega arith))
 
 -- what is decoded of a record's words is what the record says
-pub own_answer : (bits nodes : ℕ) (ws : List ℕ) (at : Home) (content : GroupRecord) (words : List ℕ) (key : FlowKey) (found result : Option ℕ) → Holds bits ws at content → length words ≡ 2
+pub own_answer : (nodes : ℕ) (ws : List ℕ) (at : Home) (content : GroupRecord) (words : List ℕ) (key : FlowKey) (found result : Option ℕ) → Holds nodes ws at content → length words ≡ 2
     → ((j : ℕ) → j < 2 → get_or words j 0 ≡ datum ws at j) → (2 ^ 48 ≤ get_or words 0 0 → StandsFound ws at 64 key found)
-    → ((c : GroupRecord) → PacksTo bits (packed_of c) words → RowsGive c key found → result ≡ decode c nodes key) → result ≡ decode content nodes key
-own_answer bits nodes ws at content words key found result h two each stands decoded =
+    → ((c : GroupRecord) → PacksTo (value_bits nodes) (packed_of c) words → RowsGive c key found → result ≡ decode c nodes key) → result ≡ decode content nodes key
+own_answer nodes ws at content words key found result h two each stands decoded =
     let same = two_items words content two (λ j less. each j less ∙ h.data_words j less) in
-    decoded content (subst (PacksTo bits (packed_of content)) (sym same) h.packs) (rows_given bits ws at content words key found h same stands)
+    decoded content (subst (PacksTo (value_bits nodes) (packed_of content)) (sym same) h.packs) (rows_given nodes ws at content words key found h same stands)
 
 -- and what is decoded of loaded words is what the record says that they are of
-pub loaded_answer : (bits nodes : ℕ) (loads : List Load) (at : Home) (content : GroupRecord) (words : List ℕ) (key : FlowKey) (found result : Option ℕ) → HasLoaded bits loads at content → length words ≡ 2
+pub loaded_answer : (nodes : ℕ) (loads : List Load) (at : Home) (content : GroupRecord) (words : List ℕ) (key : FlowKey) (found result : Option ℕ) → HasLoaded nodes loads at content → length words ≡ 2
     → ((j : ℕ) → j < 2 → HasLoad loads (load (data_word at j) (get_or words j 0))) → (2 ^ 48 ≤ get_or words 0 0 → IsFound loads at 64 key found)
-    → ((c : GroupRecord) → PacksTo bits (packed_of c) words → RowsGive c key found → result ≡ decode c nodes key) → result ≡ decode content nodes key
-loaded_answer bits nodes loads at content words key found result h two each found_is decoded =
-    own_answer bits nodes h.words at content words key found result h.holds two (λ j less. (h.fresh _ (each j less)).data_words j less refl)
+    → ((c : GroupRecord) → PacksTo (value_bits nodes) (packed_of c) words → RowsGive c key found → result ≡ decode c nodes key) → result ≡ decode content nodes key
+loaded_answer nodes loads at content words key found result h two each found_is decoded =
+    own_answer nodes h.words at content words key found result h.holds two (λ j less. (h.fresh _ (each j less)).data_words j less refl)
     (λ many. stands_found h.words loads at key found h.fresh (found_is many)) decoded
 
 -- the loads of the data words below a number
@@ -138,18 +139,36 @@ module _ (s0 s1 s3 t : Place) (at : Home) (first second : ℕ) (h : HasBegun s0 
   pub counted_now : first / 2 ≡ count (reader_view t.me.0).seen at
   counted_now = sym (ap (λ (ps : List Publication). count ps at) (seen_now ∙ seen_then) ∙ h.counted)
 
--- the node of the record of this version, as a clause says it
-pub node_is : (r opening : Opened) (size : Size) (was now : List Publication) (loads : List Load) (at : Home) (version : ℕ) (words : List ℕ) (key : FlowKey) (found result : Option ℕ)
-    → r ≡ opening → opening.size ≡ size → was ≡ now → version ≡ count now at → HasLoaded (bits_of r) loads at (latest r was at) → length words ≡ 2
-    → ((j : ℕ) → j < 2 → HasLoad loads (load (data_word at j) (get_or words j 0))) → (2 ^ 48 ≤ get_or words 0 0 → IsFound loads at 64 key found)
-    → ((c : GroupRecord) → PacksTo (value_bits size.nodes) (packed_of c) words → RowsGive c key found → result ≡ decode c size.nodes key)
-    → result ≡ decode (record_at opening.images now at version) opening.size.nodes key
-node_is r opening size was now loads at version words key found result one_opening one_size one_list counted whole two each found_is decoded =
-    let at_opening = subst (λ (o : Opened). HasLoaded (bits_of o) loads at (latest o was at)) one_opening whole in
-    let at_size = subst (λ (z : Size). HasLoaded (value_bits z.nodes) loads at (latest opening was at)) one_size at_opening in
-    loaded_answer (value_bits size.nodes) size.nodes loads at (latest opening was at) words key found result at_size two each found_is decoded
-    ∙ ((λ i. decode (record_at opening.images (one_list i) at (count (one_list i) at)) size.nodes key)
-    ∙ (λ i. decode (record_at opening.images now at (sym counted i)) (sym one_size i).nodes key))
+  -- where they are one even number, all that was loaded is of the record of that version
+  pub loaded_whole : (opening : Opened) → (reader_view s0.me.0).opening ≡ opening → IsEven first → second ≡ first
+      → (IsEven (the_look s3).first → second ≡ (the_look s3).first → let r = reader_view s3.me.0 in HasLoaded (nodes_of r.opening) (loads_of s3) at (latest r.opening r.seen at))
+      → HasLoaded opening.size.nodes (loads_of s3) at (record_at opening.images (reader_view t.me.0).seen at (first / 2))
+  loaded_whole opening one_opening even again whole =
+      subst (λ (n : ℕ). HasLoaded opening.size.nodes (loads_of s3) at (record_at opening.images (reader_view t.me.0).seen at n)) (sym counted_now)
+      (subst (λ (x : Opened × List Publication). HasLoaded (nodes_of x.0) (loads_of s3) at (latest x.0 x.1 at)) (λ i. ((opening_then ∙ one_opening) i, sym seen_now i))
+      (whole (subst IsEven (sym first_is) even) (again ∙ sym first_is)))
+
+-- the node that a look answers, and that it is one of the cluster's
+module _ (opening : Opened) (size : Size) (content : GroupRecord) (words : List ℕ) (key : FlowKey) (found result : Option ℕ) (one_size : opening.size ≡ size) (two : length words ≡ 2)
+    (answers : (c : GroupRecord) → PacksTo (value_bits size.nodes) (packed_of c) words → RowsGive c key found → result ≡ decode c size.nodes key) where
+  by_opening : (c : GroupRecord) → PacksTo (value_bits opening.size.nodes) (packed_of c) words → RowsGive c key found → result ≡ decode c opening.size.nodes key
+  by_opening = subst (λ (z : Size). (c : GroupRecord) → PacksTo (value_bits z.nodes) (packed_of c) words → RowsGive c key found → result ≡ decode c z.nodes key) (sym one_size) answers
+
+  module _ (loads : List Load) (at : Home) (whole : HasLoaded opening.size.nodes loads at content) (each : (j : ℕ) → j < 2 → HasLoad loads (load (data_word at j) (get_or words j 0)))
+      (found_in : 2 ^ 48 ≤ get_or words 0 0 → IsFound loads at 64 key found) where
+    pub node_is : result ≡ decode content opening.size.nodes key
+    node_is = loaded_answer opening.size.nodes loads at content words key found result whole two each found_in by_opening
+
+    pub node_below : IfSome result (λ node. node < opening.size.nodes)
+    node_below = answer_below opening.size.nodes content key result whole.holds.in_cluster node_is
+
+  module _ (ws : List ℕ) (at : Home) (holds : Holds opening.size.nodes ws at content) (each : (j : ℕ) → j < 2 → get_or words j 0 ≡ datum ws at j)
+      (stands : 2 ^ 48 ≤ get_or words 0 0 → StandsFound ws at 64 key found) where
+    pub own_node : result ≡ decode content opening.size.nodes key
+    own_node = own_answer opening.size.nodes ws at content words key found result holds two each stands by_opening
+
+    pub own_node_below : IfSome result (λ node. node < opening.size.nodes)
+    own_node_below = answer_below opening.size.nodes content key result holds.in_cluster own_node
 
 -- the first data word tells whether the record has rows
 pub served_below : (bits : ℕ) (pairs : List Pair) (words : List ℕ) → AreServedWords bits pairs words → get_or words 0 0 < 2 ^ 48
@@ -157,17 +176,9 @@ served_below bits pairs words h = subst (λ (n : ℕ). n < 2 ^ 48) (sym (ap (λ 
     (word_below (pair_at pairs 0) (pair_at pairs 1) (pair_at_sized pairs 0 h.sized) (pair_at_sized pairs 1 h.sized))
 
 -- and so does the one that a look has loaded of the record that stood there
-few_loaded : (bits : ℕ) (loads : List Load) (at : Home) (pairs : List Pair) (found : ℕ) → HasLoaded bits loads at (Served pairs) → HasLoad loads (load (data_word at 0) found) → found < 2 ^ 48
-few_loaded bits loads at pairs found h it = subst (λ (n : ℕ). n < 2 ^ 48) (sym ((h.fresh _ it).data_words 0 (omega arith) refl ∙ h.holds.data_words 0 (omega arith)))
-    (served_below bits pairs (words_of (Served pairs)) h.holds.packs)
-
-pub few_of_version : (r opening : Opened) (was now : List Publication) (loads : List Load) (at : Home) (version found : ℕ) (pairs : List Pair)
-    → r ≡ opening → was ≡ now → version ≡ count now at → HasLoaded (bits_of r) loads at (latest r was at) → HasLoad loads (load (data_word at 0) found)
-    → record_at opening.images now at version ≡ Served pairs → found < 2 ^ 48
-few_of_version r opening was now loads at version found pairs one_opening one_list counted whole it served =
-    let one_record : latest r was at ≡ Served pairs =
-    (λ i. record_at (one_opening i).images (one_list i) at (count (one_list i) at)) ∙ (ap (λ (n : ℕ). record_at opening.images now at n) (sym counted) ∙ served) in
-    few_loaded (bits_of r) loads at pairs found (subst (HasLoaded (bits_of r) loads at) one_record whole) it
+pub few_loaded : (nodes : ℕ) (loads : List Load) (at : Home) (pairs : List Pair) (found : ℕ) → HasLoaded nodes loads at (Served pairs) → HasLoad loads (load (data_word at 0) found) → found < 2 ^ 48
+few_loaded nodes loads at pairs found h it = subst (λ (n : ℕ). n < 2 ^ 48) (sym ((h.fresh _ it).data_words 0 (omega arith) refl ∙ h.holds.data_words 0 (omega arith)))
+    (served_below (value_bits nodes) pairs (words_of (Served pairs)) h.holds.packs)
 
 pub found_is : (bits nodes : ℕ) (words : List ℕ) (key : FlowKey) (found : Option ℕ) → 2 ^ 48 ≤ get_or words 0 0 → (content : GroupRecord) → PacksTo bits (packed_of content) words → RowsGive content key found → found ≡ decode content nodes key
 unfolding decode
@@ -178,15 +189,3 @@ pub served_is : (bits nodes : ℕ) (words : List ℕ) (key : FlowKey) (found res
     → (content : GroupRecord) → PacksTo bits (packed_of content) words → RowsGive content key found → result ≡ decode content nodes key
 served_is bits nodes words key found result few served (Served pairs) h give = served pairs h
 served_is bits nodes words key found result few served (Fallback rows) h give = let e : get_or words 0 0 ≡ 2 ^ 48 + length rows = ap (λ (ws : List ℕ). get_or ws 0 0) h.spelled in absurd (omega arith)
-
--- the same of words that the writer loaded
-pub own_node : (r opening : Opened) (size : Size) (ps : List Publication) (ws : List ℕ) (at : Home) (version : ℕ) (words : List ℕ) (key : FlowKey) (found result : Option ℕ)
-    → r ≡ opening → opening.size ≡ size → version ≡ count ps at → Holds (bits_of r) ws at (latest r ps at) → length words ≡ 2
-    → ((j : ℕ) → j < 2 → get_or words j 0 ≡ datum ws at j) → (2 ^ 48 ≤ get_or words 0 0 → StandsFound ws at 64 key found)
-    → ((c : GroupRecord) → PacksTo (value_bits size.nodes) (packed_of c) words → RowsGive c key found → result ≡ decode c size.nodes key)
-    → result ≡ decode (record_at opening.images ps at version) opening.size.nodes key
-own_node r opening size ps ws at version words key found result one_opening one_size counted holds two each stands decoded =
-    let at_opening = subst (λ (o : Opened). Holds (bits_of o) ws at (latest o ps at)) one_opening holds in
-    let at_size = subst (λ (z : Size). Holds (value_bits z.nodes) ws at (latest opening ps at)) one_size at_opening in
-    own_answer (value_bits size.nodes) size.nodes ws at (latest opening ps at) words key found result at_size two each stands decoded
-    ∙ (λ i. decode (record_at opening.images ps at (sym counted i)) (sym one_size i).nodes key)

@@ -95,6 +95,6 @@ rows_give words at rows key (Some node) s rising t =
     let same = spells_one_row at.group g.0 u.0 g.1 (place_words words at.block t.0) u.2 g.2 in
     node_of_row key rows rising u.0 u.1 (ap key_number same.1 ∙ g.3) ∙ ap Some (ap (λ (x : Row). x.node) same.1 ∙ g.4)
 
-pub gives : (bits : ℕ) (words : List ℕ) (at : Home) (content : GroupRecord) (key : FlowKey) (found : Option ℕ) → Holds bits words at content → StandsFound words at 64 key found → RowsGive content key found
-gives bits words at (Served pairs) key found h t = tt
-gives bits words at (Fallback rows) key found h t = rows_give words at rows key found h.rows h.sound.rising t
+pub gives : (nodes : ℕ) (words : List ℕ) (at : Home) (content : GroupRecord) (key : FlowKey) (found : Option ℕ) → Holds nodes words at content → StandsFound words at 64 key found → RowsGive content key found
+gives nodes words at (Served pairs) key found h t = tt
+gives nodes words at (Fallback rows) key found h t = rows_give words at rows key found h.rows h.sound.rising t

@@ -31,12 +31,13 @@ module _ (at : Home) (words words' : List ℕ) (same : SameGroup at words words'
         (t.0, t.1, subst (SpellsRow at.group row) (sym (same_place t.0 e)) t.2);
   }
 
-  pub holds_on : (bits : ℕ) (content : GroupRecord) → Holds bits words at content → Holds bits words' at content
-  holds_on bits content h = record {
+  pub holds_on : (nodes : ℕ) (content : GroupRecord) → Holds nodes words at content → Holds nodes words' at content
+  holds_on nodes content h = record {
     data_words = λ j two. same.data_words j two ∙ h.data_words j two;
     packs = h.packs;
     rows = rows_on (rows_placed content) h.rows;
     sound = h.sound;
+    in_cluster = h.in_cluster;
   }
 
 -- a word of a group stands above its block's places, and apart from the words of other groups
@@ -146,11 +147,12 @@ rows_at ws ws' at at' group same rows s = record {
       (t.0, t.1, subst (λ (x : ℕ × List ℕ). SpellsRow x.0 row x.1) (λ i. (sym group i, sym e.1 i ∷ sym e.0 i ∷ [])) t.2);
 }
 
-pub holds_at : (bits : ℕ) (ws ws' : List ℕ) (at at' : Home) (content : GroupRecord) → at'.group ≡ at.group → ((j : ℕ) → j < 2 → datum ws' at' j ≡ datum ws at j)
-    → ((k : ℕ) → k < 64 → (high ws' at'.block k ≡ high ws at.block k) × (low ws' at'.block k ≡ low ws at.block k)) → Holds bits ws at content → Holds bits ws' at' content
-holds_at bits ws ws' at at' content group data_words places h = record {
+pub holds_at : (nodes : ℕ) (ws ws' : List ℕ) (at at' : Home) (content : GroupRecord) → at'.group ≡ at.group → ((j : ℕ) → j < 2 → datum ws' at' j ≡ datum ws at j)
+    → ((k : ℕ) → k < 64 → (high ws' at'.block k ≡ high ws at.block k) × (low ws' at'.block k ≡ low ws at.block k)) → Holds nodes ws at content → Holds nodes ws' at' content
+holds_at nodes ws ws' at at' content group data_words places h = record {
   data_words = λ j two. data_words j two ∙ h.data_words j two;
   packs = h.packs;
   rows = rows_at ws ws' at at' group places (rows_placed content) h.rows;
   sound = h.sound;
+  in_cluster = h.in_cluster;
 }

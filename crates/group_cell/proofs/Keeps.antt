@@ -15,7 +15,7 @@ use Rattle.group_cell.specs.declared.view.View.{View}
 use Rattle.group_cell.specs.declared.view.View.TheVariants.{Writer, Reader, Spent}
 use Rattle.group_cell.specs.Opening.{Opened}
 use Rattle.group_cell.specs.Layout.{address, home_of, home_of_word, high, high_word, low_word, data_word, sequence_word, sequence, tag}
-use Rattle.group_cell.specs.Rule.{IsIn, Holds, bits_of, Stands, Sees, AgreesWith, Kept}
+use Rattle.group_cell.specs.Rule.{IsIn, Holds, nodes_of, Stands, Sees, AgreesWith, Kept}
 use Rattle.group_cell.specs.Plays.{writer_view, reader_view, IsWriter, IsReader, begun, stored, ended, looking, loaded, load, looked, Asks, Begins, Stores, Ends, StartsLook, Loads, EndsLook}
 use Rattle.group_cell.specs.Changes.{Untouched}
 use Rattle.group_cell.proofs.Groups.{IsOwn, home_back, own_word, low_of_free, high_of_own, sequence_above_low, sequence_above_high}
@@ -127,7 +127,7 @@ module _ {S : Type 0} (key : Opened) where
           (λ s e. let in_w = in_view e in (refl, ap (λ (k : ℕ). set w.words k odd) (sym here), begins_moves w at in_w s odd up, begins_stands w at in_w s odd up idle)))
 
       pub ends_writing : (content : GroupRecord) (word even : ℕ) → w.writing ≡ Some (address at) → word ≡ sequence_word at → even ≡ sequence w.words at + 1 → length w.published + 1 < 2 ^ 32
-          → (w.opening ≡ key → Holds (bits_of w.opening) w.words at content) → Allows Rule slots id me word (λ _. even) (λ _. Ends content (step slots word even 0 none) me even)
+          → (w.opening ≡ key → Holds (nodes_of w.opening) w.words at content) → Allows Rule slots id me word (λ _. even) (λ _. Ends content (step slots word even 0 none) me even)
       ends_writing content word even writing here up room holds =
           weaken slots id me word (λ _. even) (Made me word (ended at content even w)) (λ _. Ends content (step slots word even 0 none) me even)
           (λ x m h. h.0 ∙ (let back : at ≡ home_of_word word = sym (ap home_of_word here ∙ home_back at inside.group) in λ l. (Writer (ended (back l) content even w), me.1)))

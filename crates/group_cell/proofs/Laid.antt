@@ -7,6 +7,7 @@ use native.Mathlib.Decide.{ℕ_discrete}
 use mathlib.Core.Option.{some-ne-none}
 use lib.ListN.{get_or-append}
 use lib.Seq.{get_or-append_seam}
+use Rattle.flow_types.specs.Size.{value_bits}
 use Rattle.group_search.specs.declared.record.GroupRecord.{GroupRecord}
 use Rattle.group_search.specs.declared.record.GroupRecord.TheVariants.{Served}
 use Rattle.group_search.specs.Canon.{rows_in}
@@ -87,11 +88,12 @@ module _ (words owners : List ℕ) (g a b i j : ℕ) (few : g < 64) (at_i : i �
       → IsSoundRecord content → RowsStand words (in_front g) (rows_placed content) → sequence words (in_front g) ≡ 0 → places_of (g + 1) owners ≡ rows_in content → IsLaid (set (set words i a) j b) owners (in_front g) content
   group_laid content packed a_is b_is packed_is packs sound rows version counted = record {
     version = else_is (sequence_word (in_front g)) (λ e. omega arith) (λ e. omega arith) ∙ version;
-    holds = λ bits has. record {
+    holds = λ nodes bits in_cluster. record {
       data_words = two_words;
-      packs = subst (PacksTo bits (packed_of content)) packed_is (packs bits has);
+      packs = subst (PacksTo (value_bits nodes) (packed_of content)) packed_is (packs (value_bits nodes) bits);
       rows = rows_at words (set (set words i a) j b) (in_front g) (in_front g) refl (λ k less. (else_is (high_word 0 k) (λ e. omega arith) (λ e. omega arith), else_is (low_word 0 k) (λ e. omega arith) (λ e. omega arith))) (rows_placed content) rows;
       sound = sound;
+      in_cluster = in_cluster;
     };
     counted = counted;
   }
@@ -113,7 +115,7 @@ module _ (words owners : List ℕ) (g a b i j : ℕ) (few : g < 64) (at_i : i �
 pub laid_on : (words words' owners owners' : List ℕ) (at : Home) (content : GroupRecord) → Untouched at words words' → places_of (at.group + 1) owners' ≡ places_of (at.group + 1) owners → IsLaid words owners at content → IsLaid words' owners' at content
 laid_on words words' owners owners' at content u same l = record {
   version = u.version ∙ l.version;
-  holds = λ bits has. holds_on at words words' u.group bits content (l.holds bits has);
+  holds = λ nodes bits in_cluster. holds_on at words words' u.group nodes content (l.holds nodes bits in_cluster);
   counted = same ∙ l.counted;
 }
 
@@ -171,8 +173,8 @@ module _ (words owners bw bo : List ℕ) (block : ℕ) (wide : length words ≡ 
   pub last_laid : (g : ℕ) (content : GroupRecord) → IsLaid bw bo (in_front g) content → IsLaid (words ++ bw) bo (record { block = block; group = g }) content
   last_laid g content l = let there : Home = record { block = block; group = g } in record {
     version = after (sequence_word (in_front g)) (sequence_word there) (omega arith) ∙ l.version;
-    holds = λ bits has. holds_at bits bw (words ++ bw) (in_front g) there content refl (λ j two. after (data_word (in_front g) j) (data_word there j) (omega arith))
-        (λ k less. (after (high_word 0 k) (high_word block k) (omega arith), after (low_word 0 k) (low_word block k) (omega arith))) (l.holds bits has);
+    holds = λ nodes bits in_cluster. holds_at nodes bw (words ++ bw) (in_front g) there content refl (λ j two. after (data_word (in_front g) j) (data_word there j) (omega arith))
+        (λ k less. (after (high_word 0 k) (high_word block k) (omega arith), after (low_word 0 k) (low_word block k) (omega arith))) (l.holds nodes bits in_cluster);
     counted = l.counted;
   }
 
@@ -191,7 +193,7 @@ module _ (words owners bw bo : List ℕ) (block : ℕ) (wide : length words ≡ 
   pub first_laid : (at : Home) (content : GroupRecord) → at.block < block → at.group < 64 → IsLaid words owners at content → IsLaid (words ++ bw) owners at content
   first_laid at content less few l = record {
     version = before (sequence_word at) (omega arith) ∙ l.version;
-    holds = λ bits has. holds_at bits words (words ++ bw) at at content refl (λ j two. before (data_word at j) (omega arith)) (λ k inside. (before (high_word at.block k) (omega arith), before (low_word at.block k) (omega arith))) (l.holds bits has);
+    holds = λ nodes bits in_cluster. holds_at nodes words (words ++ bw) at at content refl (λ j two. before (data_word at j) (omega arith)) (λ k inside. (before (high_word at.block k) (omega arith), before (low_word at.block k) (omega arith))) (l.holds nodes bits in_cluster);
     counted = l.counted;
   }
 

@@ -7,6 +7,7 @@ pub mod Meeting
 pub mod Placing
 pub mod Finding
 pub mod Looking
+pub mod Below
 pub mod Rewriting
 pub mod Answering
 pub mod Room

@@ -5,6 +5,8 @@ use Rattle.std.proofs.lemmas.List.Elements.{All-get_or}
 use mathlib.Core.Option.{some, some-injective, some-ne-none}
 use lib.ListN.{get_elem?}
 use Rattle.atomic_table.specs.Table.{opening}
+use Rattle.flow_types.specs.Size.{value_bits}
+use Rattle.group_search.specs.declared.record.GroupRecord.{GroupRecord}
 use Rattle.group_search.specs.declared.record.GroupRecord.TheVariants.{Served}
 use Rattle.group_search.specs.Home.{Home}
 use Rattle.group_search.specs.Image.{Image}
@@ -15,26 +17,26 @@ use Rattle.group_cell.specs.declared.view.View.TheVariants.{Writer}
 use Rattle.group_cell.specs.declared.view.WriterView.{WriterView}
 use Rattle.group_cell.specs.Opening.{Opened}
 use Rattle.group_cell.specs.Laying.{AreLaid}
-use Rattle.group_cell.specs.Rule.{IsIn, Stands, AgreesWith, Kept, bits_of}
+use Rattle.group_cell.specs.Rule.{HasNodes, IsIn, Stands, AgreesWith, Kept}
 use Rattle.group_cell.specs.Plays.{first_writer, first_view}
 use Rattle.group_cell.specs.Seating.{Tallies}
 
--- the opening records have the cluster's value bits
-abbrev pub AllHaveBits : Opened → Type 0
-AllHaveBits o = All (λ (image : Image). All (HasBits (bits_of o)) image.records) o.images
+-- each opening record is so
+abbrev pub AllRecords : (GroupRecord → Type 0) → Opened → Type 0
+AllRecords P o = All (λ (image : Image). All P image.records) o.images
 
-has_bits : (o : Opened) (owners : List (List ℕ)) → AreLaid o.words owners o.images → AllHaveBits o → (at : Home) → IsIn o at → HasBits (bits_of o) (opening_record o.images at)
-has_bits o owners t all at inside =
+opening_is : (P : GroupRecord → Type 0) (o : Opened) (owners : List (List ℕ)) → AreLaid o.words owners o.images → AllRecords P o → (at : Home) → IsIn o at → P (opening_record o.images at)
+opening_is P o owners t all at inside =
     let image : Image = get_or o.images at.block (record { choices = []; records = [] }) in
-    let of_image = All-get_or (λ (image : Image). All (HasBits (bits_of o)) image.records) o.images at.block (record { choices = []; records = [] }) inside.block all in
+    let of_image = All-get_or (λ (image : Image). All P image.records) o.images at.block (record { choices = []; records = [] }) inside.block all in
     let enough = t.all at.block inside.block in let few = inside.group in
-    All-get_or (HasBits (bits_of o)) image.records at.group (Served []) (omega arith) of_image
+    All-get_or P image.records at.group (Served []) (omega arith) of_image
 
-pub first_stands : (o : Opened) (owners : List (List ℕ)) → AreLaid o.words owners o.images → AllHaveBits o → Stands (first_writer o)
-first_stands o owners t all = record {
+pub first_stands : (o : Opened) (owners : List (List ℕ)) → AreLaid o.words owners o.images → AllRecords (HasBits (value_bits o.size.nodes)) o → AllRecords (HasNodes o.size.nodes) o → Stands (first_writer o)
+first_stands o owners t bits in_cluster = record {
   wide = t.wide;
   few = omega arith;
-  rest = λ at inside _. let l = t.groups at inside.block inside.group in record { version = l.version; holds = l.holds (bits_of o) (has_bits o owners t all at inside) };
+  rest = λ at inside _. let l = t.groups at inside.block inside.group in record { version = l.version; holds = l.holds o.size.nodes (opening_is (HasBits (value_bits o.size.nodes)) o owners t bits at inside) (opening_is (HasNodes o.size.nodes) o owners t in_cluster at inside) };
   in_writing = tt;
   heard = λ k l none. absurd (some-ne-none l (sym none));
 }
@@ -42,14 +44,14 @@ first_stands o owners t all = record {
 pub first_tallies : (o : Opened) (owners : List (List ℕ)) → AreLaid o.words owners o.images → Tallies owners (first_writer o)
 first_tallies o owners t = record { one_each = t.one_each; placed = t.owners_of; counted = λ at inside. (t.groups at inside.block inside.group).counted }
 
-pub opens : (S : Type 0) (o : Opened) (owners : List (List ℕ)) → AreLaid o.words owners o.images → AllHaveBits o → Kept {S = S} o (opening o.words [] (first_view o))
-opens S o owners t all = let w = first_writer o in record {
+pub opens : (S : Type 0) (o : Opened) (owners : List (List ℕ)) → AreLaid o.words owners o.images → AllRecords (HasBits (value_bits o.size.nodes)) o → AllRecords (HasNodes o.size.nodes) o → Kept {S = S} o (opening o.words [] (first_view o))
+opens S o owners t bits in_cluster = let w = first_writer o in record {
   writer = 0;
   view = w;
   seat = refl;
   words = refl;
   opened = refl;
-  stands = first_stands o owners t all;
+  stands = first_stands o owners t bits in_cluster;
   each_seat = alone w;
 }
   where

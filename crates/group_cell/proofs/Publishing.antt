@@ -3,6 +3,7 @@ use Rattle.std.proofs.Common.{◌≡◌, ℕ, ◌+◌, ◌-◌, ◌*◌, ◌<◌
 use mathlib.Core.Logic.{dite}
 use native.Mathlib.Decide.{ℕ_discrete}
 use Rattle.atomic_table.specs.Table.{Me}
+use Rattle.flow_types.specs.Size.{value_bits}
 use Rattle.group_search.specs.declared.published.Publication.{Publication}
 use Rattle.group_search.specs.declared.record.GroupRecord.{GroupRecord}
 use Rattle.group_search.specs.Canon.{rows_in}
@@ -12,7 +13,7 @@ use Rattle.group_cell.specs.declared.view.View.{View}
 use Rattle.group_cell.specs.declared.view.WriterView.{WriterView}
 use Rattle.group_cell.specs.Opening.{Opened}
 use Rattle.group_cell.specs.Layout.{low_word, high_word, sequence_word, low, high, sequence, datum}
-use Rattle.group_cell.specs.Rule.{Holds, IsIn, IsSoundRecord, RowsStand, latest, rows_placed}
+use Rattle.group_cell.specs.Rule.{HasNodes, Holds, IsIn, IsSoundRecord, RowsStand, latest, rows_placed}
 use Rattle.group_cell.specs.Plays.{writer_view, IsWriter, begun, ended, publication}
 use Rattle.group_cell.specs.Seating.{Place, AreOwners, IsInWriting, IsWriterSeat, Rewrites, Tallies, Writes, WritesData, places_of, words_of_seat}
 use Rattle.std.proofs.lemmas.List.{get_or_default}
@@ -76,13 +77,14 @@ module _ (s0 s1 s2 s3 s4 : Place) (at : Home) (few : at.group < 64) (odd : ℕ) 
       ∙ begun_else i (⊎_elim (λ (less : i < 320 * at.block). λ (e : i ≡ sequence_word at). omega arith) (λ (le : 320 * at.block + 320 ≤ i). λ (e : i ≡ sequence_word at). omega arith) far)))
 
   -- the record stands before it is published
-  pub holds_now : (bits : ℕ) (content : GroupRecord) (words : List ℕ) → words ≡ words_of content → PacksTo bits (packed_of content) words → IsSoundRecord content
-      → ((j : ℕ) → j < 2 → datum (words_of_seat s4) at j ≡ get_or words j 0) → RowsStand (words_of_seat s3) at (rows_placed content) → Holds bits (words_of_seat s4) at content
-  holds_now bits content words is packs sound data_words rows = record {
+  pub holds_now : (nodes : ℕ) (content : GroupRecord) (words : List ℕ) → words ≡ words_of content → PacksTo (value_bits nodes) (packed_of content) words → IsSoundRecord content → HasNodes nodes content
+      → ((j : ℕ) → j < 2 → datum (words_of_seat s4) at j ≡ get_or words j 0) → RowsStand (words_of_seat s3) at (rows_placed content) → Holds nodes (words_of_seat s4) at content
+  holds_now nodes content words is packs sound in_cluster data_words rows = record {
     data_words = λ j two. data_words j two ∙ ap (λ (ws : List ℕ). get_or ws j 0) is;
-    packs = subst (PacksTo bits (packed_of content)) is packs;
+    packs = subst (PacksTo (value_bits nodes) (packed_of content)) is packs;
     rows = rows_at (words_of_seat s3) (words_of_seat s4) at at refl (λ k less. (high_now k less, low_now k less)) (rows_placed content) rows;
     sound = sound;
+    in_cluster = in_cluster;
   }
 
 either_side : (x y : ℕ) → x ≢ y → (x < y) ⊎ (y < x)

@@ -13,7 +13,7 @@ use Rattle.group_cell.specs.declared.view.WriterView.{WriterView}
 use Rattle.group_cell.specs.declared.view.ReaderView.{ReaderView}
 use Rattle.group_cell.specs.Opening.{Opened}
 use Rattle.group_cell.specs.Layout.{address, home_of, sequence}
-use Rattle.group_cell.specs.Rule.{IsEven, IsIn, IsAtRest, IsFresh, HasLoaded, Holds, bits_of, latest, Stands, Looks, Sees}
+use Rattle.group_cell.specs.Rule.{IsEven, IsIn, IsAtRest, IsFresh, HasLoaded, Holds, nodes_of, latest, Stands, Looks, Sees}
 use Rattle.group_cell.specs.Plays.{begun_look, looking, load, loaded_in, loaded, ended_in, looked}
 use Rattle.group_cell.proofs.Versions.{same_home_or, count_within, record_at-kept, extends-self, extends-trans}
 use Rattle.group_cell.proofs.Writing.{odd_now}
@@ -79,7 +79,7 @@ module _ (w : WriterView) (r : ReaderView) (s : Stands w) (k : Sees w r) where
   }
 
   -- with the same even number again, what was loaded is of the record of that version
-  pub reads_whole : (l : Sight) → r.last ≡ Some l → IsEven l.first → sequence w.words (home_of l.at) ≡ l.first → HasLoaded (bits_of r.opening) l.loads (home_of l.at) (latest r.opening r.seen (home_of l.at))
+  pub reads_whole : (l : Sight) → r.last ≡ Some l → IsEven l.first → sequence w.words (home_of l.at) ≡ l.first → HasLoaded (nodes_of r.opening) l.loads (home_of l.at) (latest r.opening r.seen (home_of l.at))
   reads_whole l is even again = let q = looks_of l is in let at : Home = home_of l.at in
       let rest = s.rest at q.inside (even_rests w s at q.inside (subst IsEven (sym again) even)) in
       let now = rest.version in
@@ -89,7 +89,7 @@ module _ (w : WriterView) (r : ReaderView) (s : Stands w) (k : Sees w r) where
       ap (λ (c : ℕ). record_at w.opening.images w.published at c) same ∙ (record_at-kept w.opening.images r.seen w.published at (count r.seen at) k.seen (le_refl (count r.seen at))
       ∙ ap (λ (o : Opened). record_at o.images r.seen at (count r.seen at)) (sym k.opening)) in record {
         words = w.words;
-        holds = subst (λ (o : Opened). Holds (bits_of o) w.words at (latest r.opening r.seen at)) (sym k.opening) (subst (Holds (bits_of w.opening) w.words at) one_record rest.holds);
+        holds = subst (λ (o : Opened). Holds (nodes_of o) w.words at (latest r.opening r.seen at)) (sym k.opening) (subst (Holds (nodes_of w.opening) w.words at) one_record rest.holds);
         fresh = q.fresh even again;
       }
 

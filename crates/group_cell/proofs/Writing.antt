@@ -10,7 +10,7 @@ use Rattle.group_cell.specs.declared.view.Sight.{Sight}
 use Rattle.group_cell.specs.declared.view.WriterView.{WriterView}
 use Rattle.group_cell.specs.declared.view.ReaderView.{ReaderView}
 use Rattle.group_cell.specs.Layout.{address, home_of, sequence_word, sequence, tag, high}
-use Rattle.group_cell.specs.Rule.{IsEven, IsIn, IsAtRest, IsFresh, Rests, Holds, bits_of, latest, Stands, Looks, Sees}
+use Rattle.group_cell.specs.Rule.{IsEven, IsIn, IsAtRest, IsFresh, Rests, Holds, nodes_of, latest, Stands, Looks, Sees}
 use Rattle.group_cell.specs.Plays.{begun, stored, ended, publication}
 use Rattle.group_cell.proofs.Versions.{same_home_or, count_here, count_else, latest_here, latest_else, extends-self, extends-snoc, extends-trans}
 use Rattle.group_cell.specs.Changes.{SameGroup, Untouched}
@@ -80,8 +80,8 @@ rests_on : (w w' : WriterView) (at : Home) → w'.opening ≡ w.opening → Unto
     → Rests w at → Rests w' at
 rests_on w w' at same u counted kept r = record {
   version = u.version ∙ (r.version ∙ ap (λ (n : ℕ). 2 * n) (sym counted));
-  holds = subst (λ o. Holds (bits_of o) w'.words at (latest o w'.published at)) (sym same)
-      (subst (Holds (bits_of w.opening) w'.words at) (sym kept) (holds_on at w.words w'.words u.group (bits_of w.opening) (latest w.opening w.published at) r.holds));
+  holds = subst (λ o. Holds (nodes_of o) w'.words at (latest o w'.published at)) (sym same)
+      (subst (Holds (nodes_of w.opening) w'.words at) (sym kept) (holds_on at w.words w'.words u.group (nodes_of w.opening) (latest w.opening w.published at) r.holds));
 }
 
 module _ (w : WriterView) (at : Home) (inside : IsIn w.opening at) (s : Stands w) where
@@ -153,15 +153,15 @@ module _ (w : WriterView) (at : Home) (inside : IsIn w.opening at) (s : Stands w
   ends_moves content even is = record { opening = refl; longer = extends-snoc w.published (publication at content); groups = rises even is }
 
   pub ends_stands : (content : GroupRecord) (even : ℕ) → even ≡ sequence w.words at + 1 → w.writing ≡ Some (address at) → length w.published + 1 < 2 ^ 32
-      → Holds (bits_of w.opening) w.words at content → Stands (ended at content even w)
+      → Holds (nodes_of w.opening) w.words at content → Stands (ended at content even w)
   ends_stands content even is some room holds = let p : Publication = publication at content in record {
     wide = length-set w.words (sequence_word at) even ∙ s.wide;
     few = let l = length-append w.published (p ∷ []) in omega arith;
     rest = λ h in_table _. ⊎_elim
         (λ (e : h ≡ at). subst (Rests (ended at content even w)) (sym e) record {
           version = let now = own even in let odd = odd_now some in let more = count_here w.published p at refl in omega arith;
-          holds = subst (Holds (bits_of w.opening) (set w.words (sequence_word at) even) at) (sym (latest_here w.published p at w.opening.images refl))
-              (holds_on at w.words (set w.words (sequence_word at) even) own_kept (bits_of w.opening) content holds);
+          holds = subst (Holds (nodes_of w.opening) (set w.words (sequence_word at) even) at) (sym (latest_here w.published p at w.opening.images refl))
+              (holds_on at w.words (set w.words (sequence_word at) even) own_kept (nodes_of w.opening) content holds);
         })
         (λ other. rests_on w (ended at content even w) h refl (others_kept even h in_table other) (count_else w.published p h (λ e. other (sym e))) (latest_else w.published p h w.opening.images (λ e. other (sym e)))
         (s.rest h in_table (others_rest some h other))) (same_home_or h at);

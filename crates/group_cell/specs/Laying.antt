@@ -10,7 +10,7 @@ use Rattle.group_search.specs.Words.{HasBits}
 use Rattle.group_cell.specs.Changes.{Untouched}
 use Rattle.group_cell.specs.Layout.{sequence}
 use Rattle.group_cell.specs.Opening.{HaveAllGroups, Opened}
-use Rattle.group_cell.specs.Rule.{Holds, RowsStand}
+use Rattle.group_cell.specs.Rule.{HasNodes, Holds, RowsStand}
 use Rattle.group_cell.specs.Seating.{AreOwners, places_of}
 
 -- the group of the block that is laid, whose words stand at the front
@@ -20,7 +20,7 @@ in_front group = record { block = 0; group = group }
 -- the group has version 0 and its record
 pub record IsLaid (words owners : List ℕ) (at : Home) (content : GroupRecord) : Type 0 where
   pub version : sequence words at ≡ 0
-  pub holds : (bits : ℕ) → HasBits bits content → Holds bits words at content
+  pub holds : (nodes : ℕ) → HasBits (value_bits nodes) content → HasNodes nodes content → Holds nodes words at content
   pub counted : places_of (at.group + 1) owners ≡ rows_in content
 
 -- the group has version 0, and no places
@@ -50,8 +50,10 @@ pub record AreLaid (words : List ℕ) (owners : List (List ℕ)) (images : List 
   pub owners_of : (block : ℕ) → block < length images → AreOwners (slice_index_or owners block []) words block
   pub groups : (at : Home) → at.block < length images → at.group < 64 → IsLaid words (slice_index_or owners at.block []) at (opening_record images at)
 
--- the opening's images are laid in its words, and it has a block; the opening records have the cluster's value bits
+-- the opening's images are laid in its words, and it has a block; the opening records have the cluster's value bits, and
+-- their rows go to the cluster's nodes
 pub record IsPlanned (o : Opened) (owners : List (List ℕ)) : Type 0 where
   pub laid : AreLaid o.words owners o.images
   pub has_a_block : 0 < length o.images
   pub bits : All (λ (image : Image). All (HasBits (value_bits o.size.nodes)) image.records) o.images
+  pub in_cluster : All (λ (image : Image). All (HasNodes o.size.nodes) image.records) o.images

@@ -13,7 +13,7 @@ use Rattle.group_cell.specs.declared.view.ReaderView.{ReaderView}
 use Rattle.group_cell.specs.declared.view.View.{View}
 use Rattle.group_cell.specs.declared.view.View.TheVariants.{Writer, Reader, Spent}
 use Rattle.group_cell.specs.Layout.{address, home_of, home_of_word, sequence_word}
-use Rattle.group_cell.specs.Rule.{bits_of, latest, IsEven, Stands, HasLoaded}
+use Rattle.group_cell.specs.Rule.{nodes_of, latest, IsEven, Stands, HasLoaded}
 
 abbrev pub first_writer : Opened → WriterView
 first_writer opening = record { opening = opening; published = []; words = opening.words; writing = None; heard = [] }
@@ -130,4 +130,4 @@ module _ {S : Type 0} where
   abbrev pub EndsLook : Step S → Me S View → ℕ → Me S View → Type 0
   EndsLook st m n m' = (m' ≡ (Reader (looked n (reader_view m.0)), m.1))
       × ((l : Sight) → (reader_view m.0).last ≡ Some l → IsEven l.first → n ≡ l.first
-      → let r = reader_view m.0 in HasLoaded (bits_of r.opening) l.loads (home_of l.at) (latest r.opening r.seen (home_of l.at)))
+      → let r = reader_view m.0 in HasLoaded (nodes_of r.opening) l.loads (home_of l.at) (latest r.opening r.seen (home_of l.at)))

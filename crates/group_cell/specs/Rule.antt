@@ -1,5 +1,5 @@
 -- The rule of one table: what its words and the views of its seats have to do with what was published.
-use Rattle.std.specs.Prelude.{◌≡◌, ◌≢◌, ◌⊎◌, ℕ, ◌+◌, ◌*◌, ◌%◌, ◌^◌, ◌<◌, ◌≤◌, List, [], length, slice_index, Some, IfSome}
+use Rattle.std.specs.Prelude.{◌≡◌, ◌≢◌, ◌⊎◌, ℕ, ◌+◌, ◌*◌, ◌%◌, ◌^◌, ◌<◌, ◌≤◌, All, List, [], length, slice_index, Some, IfSome}
 use mathlib.Core.Option.{some}
 use lib.ListN.{get_elem?}
 use Rattle.atomic_table.specs.Table.{State}
@@ -30,9 +30,9 @@ pub record IsIn (opening : Opened) (at : Home) : Type 0 where
   pub block : at.block < length opening.images
   pub group : at.group < 64
 
--- how many value bits the table's served records have
-abbrev pub bits_of : Opened → ℕ
-bits_of opening = value_bits opening.size.nodes
+-- how many nodes the table's cluster has
+abbrev pub nodes_of : Opened → ℕ
+nodes_of opening = opening.size.nodes
 
 -- the group's record after all these publications
 abbrev pub latest : Opened → List Publication → Home → GroupRecord
@@ -47,6 +47,11 @@ abbrev pub IsSoundRecord : GroupRecord → Type 0
 IsSoundRecord (Served pairs) = Unit {0}
 IsSoundRecord (Fallback rows) = AreRows rows
 
+-- each of the record's rows goes to one of so many nodes
+abbrev pub HasNodes : (nodes : ℕ) → GroupRecord → Type 0
+HasNodes nodes (Served pairs) = Unit {0}
+HasNodes nodes (Fallback rows) = All (λ (row : Row). row.node < nodes) rows
+
 -- the row stands in the list
 abbrev pub HasRow : List Row → Row → Type 0
 HasRow rows row = (i : ℕ) × (get_elem? rows i ≡ some row)
@@ -56,12 +61,13 @@ pub record RowsStand (words : List ℕ) (at : Home) (rows : List Row) : Type 0 w
   pub into : (k : ℕ) → k < 64 → tag (high words at.block k) ≡ at.group + 1 → (row : Row) × HasRow rows row × SpellsRow at.group row (place_words words at.block k)
   pub onto : (row : Row) → HasRow rows row → (k : ℕ) × (k < 64) × SpellsRow at.group row (place_words words at.block k)
 
--- the record stands in the group's data words and places
-pub record Holds (bits : ℕ) (words : List ℕ) (at : Home) (content : GroupRecord) : Type 0 where
+-- the record stands in the group's data words and places, and is one of a cluster of so many nodes
+pub record Holds (nodes : ℕ) (words : List ℕ) (at : Home) (content : GroupRecord) : Type 0 where
   pub data_words : (j : ℕ) → j < 2 → datum words at j ≡ slice_index (words_of content) j
-  pub packs : PacksTo bits (packed_of content) (words_of content)
+  pub packs : PacksTo (value_bits nodes) (packed_of content) (words_of content)
   pub rows : RowsStand words at (rows_placed content)
   pub sound : IsSoundRecord content
+  pub in_cluster : HasNodes nodes content
 
 -- the group isn't the one in writing
 abbrev pub IsAtRest : WriterView → Home → Type 0
@@ -70,7 +76,7 @@ IsAtRest w at = IfSome w.writing (λ a. home_of a ≢ at)
 -- what stands of a group at rest: its version, and its latest record
 pub record Rests (w : WriterView) (at : Home) : Type 0 where
   pub version : sequence w.words at ≡ 2 * count w.published at
-  pub holds : Holds (bits_of w.opening) w.words at (latest w.opening w.published at)
+  pub holds : Holds (nodes_of w.opening) w.words at (latest w.opening w.published at)
 
 abbrev pub AllIn : (List Publication → Type 0) → List (List Publication) → Type 0
 AllIn P lists = (k : ℕ) (l : List Publication) → get_elem? lists k ≡ some l → P l
@@ -98,9 +104,9 @@ abbrev pub AreFresh : List ℕ → Home → List Load → Type 0
 AreFresh words at loads = (x : Load) → HasLoad loads x → IsFresh words at x
 
 -- what was loaded is of words in which the record stands
-pub record HasLoaded (bits : ℕ) (loads : List Load) (at : Home) (content : GroupRecord) : Type 0 where
+pub record HasLoaded (nodes : ℕ) (loads : List Load) (at : Home) (content : GroupRecord) : Type 0 where
   pub words : List ℕ
-  pub holds : Holds bits words at content
+  pub holds : Holds nodes words at content
   pub fresh : AreFresh words at loads
 
 -- what a look tells while it goes on, and after it has ended with the even number with which it began
@@ -109,7 +115,7 @@ pub record Looks (w : WriterView) (r : ReaderView) (l : Sight) : Type 0 where
   pub counted : IsEven l.first → 2 * count r.seen (home_of l.at) ≡ l.first
   pub late : l.first ≤ sequence w.words (home_of l.at)
   pub fresh : IsEven l.first → sequence w.words (home_of l.at) ≡ l.first → AreFresh w.words (home_of l.at) l.loads
-  pub whole : IsEven l.first → l.second ≡ Some l.first → HasLoaded (bits_of r.opening) l.loads (home_of l.at) (latest r.opening r.seen (home_of l.at))
+  pub whole : IsEven l.first → l.second ≡ Some l.first → HasLoaded (nodes_of r.opening) l.loads (home_of l.at) (latest r.opening r.seen (home_of l.at))
 
 -- a reader has seen a beginning of what was published
 pub record Sees (w : WriterView) (r : ReaderView) : Type 0 where

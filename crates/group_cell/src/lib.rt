@@ -11,7 +11,7 @@
 //! what words and seats have to do with these lists, and `specs/Plays.antt` what each step tells its seat.
 //!
 //! No call waits, and none but `open` takes memory. Proved, for every interleaving of loads and stores: each call's
-//! exact answer. Not said: that a look ever succeeds beside a writer that never rests. Only tested: that threads ran.
+//! exact answer, and that the node in it is one of the cluster's. Not said: that a look ever succeeds beside a writer that never rests. Only tested: that threads ran.
 #![tactic(auto)]
 
 mod layout;

@@ -53,7 +53,8 @@ pub struct ReaderSeat {
 pub struct Look {
     /// How many records were published for the group.
     pub version: u32,
-    /// The key's node, or `None` where the record gives it none. For a key that isn't in the group it is arbitrary.
+    /// The key's node, one of the cluster's, or `None` where the record gives it none. For a key that isn't in the
+    /// group it is any of these.
     pub node: Option<u8>,
 }
 

@@ -1,8 +1,7 @@
 ghost use Rattle.std.specs.Prelude.{◌≡◌, ◌+◌, ◌<◌, ◌≤◌, All, IfOk, IfSome, length, sum_by};
-ghost use Rattle.flow_types.specs.Size.{value_bits};
 ghost use Rattle.group_search.specs.Canon.{rows_in};
 ghost use Rattle.group_search.specs.Words.{HasBits};
-ghost use Rattle.group_cell.specs.Rule.{IsIn};
+ghost use Rattle.group_cell.specs.Rule.{HasNodes, IsIn};
 ghost use Rattle.group_cell.specs.Seats.{IsReaderOf, IsWriterOf, opened_with, published, the_group};
 
 use crate::{CellTable, ReaderSeat, WriterSeat};
@@ -23,26 +22,27 @@ fn key(number: u8) -> FlowKey {
     }
 }
 
-/// A record of two value bits that gives each key this node, one of four.
+/// A record of four value bits that gives each key this node, one of sixteen.
 fn served(node: u8) -> GroupRecord
-    ensures bits { HasBits 2 result }
+    ensures bits { HasBits 4 result }
+    ensures in_cluster { HasNodes 16 result }
     ensures rows { rows_in result ≡ 0 }
 {
     let pair = |bit: u8| Pair {
         index: 0,
         array: if node & bit == 0 { 0 } else { 255 },
     };
-    let none = Pair { index: 0, array: 0 };
     GroupRecord::Served(Served {
-        bits: 2,
-        pairs: [pair(1), pair(2), none, none],
+        bits: 4,
+        pairs: [pair(1), pair(2), pair(4), pair(8)],
     })
 }
 
-/// A record with so many rows, 2..=64, of the keys from 1 up, each with this node.
+/// A record with so many rows, 2..=64, of the keys from 1 up, each with this node, one of sixteen.
 fn fallback(count: u8, node: u8) -> Option<GroupRecord>
     requires { count ≤ 64 }
-    ensures { IfSome result (λ content. HasBits 2 content) }
+    ensures bits { IfSome result (λ content. HasBits 4 content) }
+    ensures in_cluster { IfSome result (λ content. HasNodes 16 content) }
 {
     let mut rows = [Row::default(); 64];
     'rows: for place in 0..count {
@@ -51,13 +51,18 @@ fn fallback(count: u8, node: u8) -> Option<GroupRecord>
             node,
         };
     }
-    Some(GroupRecord::Fallback(Rows::of(&rows[..usize::from(count)])?))
+    let rows = &rows[..usize::from(count)];
+    if !rows.iter().all(|row| row.node < 16) {
+        return None;
+    }
+    Some(GroupRecord::Fallback(Rows::of(rows)?))
 }
 
 /// An image whose records all give each key node 0.
 fn image(alloc: Global) -> Result<BlockImage, AllocError>
     ensures rows { IfOk result (λ image. sum_by rows_in image.records ≤ 64) }
-    ensures bits { IfOk result (λ image. All (HasBits 2) image.records) }
+    ensures bits { IfOk result (λ image. All (HasBits 4) image.records) }
+    ensures in_cluster { IfOk result (λ image. All (HasNodes 16) image.records) }
 {
     let mut records = Vec::new(alloc);
     'records: for _ in 0..64u8 {
@@ -66,14 +71,14 @@ fn image(alloc: Global) -> Result<BlockImage, AllocError>
     Ok(BlockImage::new(choose(&[0; 256]), records))
 }
 
-/// A table of two blocks for four nodes, and its writer's seat.
+/// A table of two blocks for sixteen nodes, and its writer's seat.
 fn table(alloc: Global) -> Result<(CellTable, WriterSeat), Fail>
     ensures writer { IfOk result (λ r. IsWriterOf r.0 r.1) }
     ensures blocks { IfOk result (λ r. length (opened_with r.0).images ≡ 2) }
-    ensures bits { IfOk result (λ r. value_bits (opened_with r.0).size.nodes ≡ 2) }
+    ensures nodes { IfOk result (λ r. (opened_with r.0).size.nodes ≡ 16) }
     ensures published { IfOk result (λ r. length (published r.1) ≡ 0) }
 {
-    let shape = Shape::new(4, 2).ok_or("shape")?;
+    let shape = Shape::new(16, 2).ok_or("shape")?;
     let images = [image(alloc)?, image(alloc)?];
     Ok(CellTable::open(alloc, shape, &images)?)
 }
@@ -88,7 +93,9 @@ fn publish(
 ) -> bool
     requires writer { IsWriterOf table.now writer.old }
     requires inside { IsIn (opened_with table.now) (the_group block group) }
-    requires bits { HasBits (value_bits (opened_with table.now).size.nodes) content.now }
+    requires nodes { (opened_with table.now).size.nodes ≡ 16 }
+    requires bits { HasBits 4 content.now }
+    requires in_cluster { HasNodes 16 content.now }
     requires few { length (published writer.old) < 4294967295 }
     ensures writer { IsWriterOf table.now writer.new }
     ensures count { length (published writer.new) ≤ length (published writer.old) + 1 }
@@ -193,28 +200,26 @@ fn published_group(turn: u32) -> (u16, u8)
 
 /// The record that is published as a group's version: served ones and ones with rows in turn.
 fn version_of_group(version: u32) -> Option<GroupRecord>
-    ensures { IfSome result (λ content. HasBits 2 content) }
+    ensures bits { IfSome result (λ content. HasBits 4 content) }
+    ensures in_cluster { IfSome result (λ content. HasNodes 16 content) }
 {
+    let node = (version % 16) as u8;
     if version % 2 == 0 {
-        return Some(served((version / 2 % 4) as u8));
+        return Some(served(node));
     }
-    fallback((2 + version % 18) as u8, (version % 251) as u8)
+    fallback((2 + version % 18) as u8, node)
 }
 
 /// The node that this version gives the keys 1 and 2.
 fn node_of_version(version: u32) -> Option<u8> {
-    if version % 2 == 0 {
-        Some((version / 2 % 4) as u8)
-    } else {
-        Some((version % 251) as u8)
-    }
+    Some((version % 16) as u8)
 }
 
 /// Publishes so many records, of six groups in turn, and counts those for which there was room.
 fn publish_many(table: &CellTable, mut writer: WriterSeat, times: u32) -> (WriterSeat, u32)
     requires writer { IsWriterOf table.now writer }
     requires blocks { length (opened_with table.now).images ≡ 2 }
-    requires bits { value_bits (opened_with table.now).size.nodes ≡ 2 }
+    requires nodes { (opened_with table.now).size.nodes ≡ 16 }
     requires few { length (published writer) + times < 4294967295 }
     ensures { IsWriterOf table.now result.0 }
 {
@@ -259,7 +264,7 @@ fn publish_and_look<R: Threads + Sync>(
     requires writer { IsWriterOf table.now writer }
     requires reader { IsReaderOf table.now reader }
     requires blocks { length (opened_with table.now).images ≡ 2 }
-    requires bits { value_bits (opened_with table.now).size.nodes ≡ 2 }
+    requires nodes { (opened_with table.now).size.nodes ≡ 16 }
     requires few { length (published writer) ≡ 0 }
     ensures { IsWriterOf table.now result.0.0 }
 {

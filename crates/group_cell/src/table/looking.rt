@@ -1,8 +1,8 @@
 //! The readers' steps.
-ghost use Rattle.std.specs.Prelude.{◌≡◌, ◌+◌, ◌^◌, ◌<◌, ◌≤◌, ◌∷◌, [], ◌++◌, IfErr, IfOk, length};
+ghost use Rattle.std.specs.Prelude.{◌≡◌, ◌+◌, ◌^◌, ◌<◌, ◌≤◌, ◌∷◌, [], ◌++◌, IfErr, IfOk, IfSome, length};
 ghost use Rattle.group_search.specs.Published.{Extends};
 ghost use Rattle.group_cell.specs.Layout.{home_of};
-ghost use Rattle.group_cell.specs.Rule.{bits_of, latest, HasLoaded, IsEven, IsIn};
+ghost use Rattle.group_cell.specs.Rule.{nodes_of, latest, HasLoaded, IsEven, IsIn};
 ghost use Rattle.group_cell.specs.Plays.{reader_view, IsReader, looked};
 ghost use Rattle.group_cell.specs.Plays as plays;
 ghost use Rattle.group_cell.specs.Seating.{GoesOn, HasBegun, IsAt, IsFound, IsLooking, Reads, data_loads, loads_of, the_look};
@@ -111,14 +111,14 @@ fn end(shelf: &Shelf, seat: &mut Place, at: Address) -> u64
     requires group { (the_look seat.old).at ≡ at }
     ensures view { Reads seat.old seat.new (looked result (reader_view seat.old.me.0)) }
     ensures whole { IsEven (the_look seat.old).first → result ≡ (the_look seat.old).first
-        → let r = reader_view seat.old.me.0 in HasLoaded (bits_of r.opening) (loads_of seat.old) (home_of at) (latest r.opening r.seen (home_of at)) }
+        → let r = reader_view seat.old.me.0 in HasLoaded (nodes_of r.opening) (loads_of seat.old) (home_of at) (latest r.opening r.seen (home_of at)) }
 {
     shelf.load::<EndLook>(seat, sequence_word(at))
 }
 
 impl CellTable {
-    /// Looks up a key in a group: the node that one whole published record of the group gives it, and that record's
-    /// version; or `Changing`, where the group was being rewritten.
+    /// Looks up a key in a group: the node that one whole published record of the group gives it, if any, which is one
+    /// of the cluster's for any key, and that record's version; or `Changing`, where the group was being rewritten.
     ///
     /// The key's home is the group. The block is one of the table's, the group is below 64, and the seat is this
     /// table's. A look loads the sequence word twice and the data words once, and the places of a record with rows.
@@ -137,6 +137,7 @@ impl CellTable {
         ensures later { Extends (seen reader.old) (seen reader.new) }
         ensures looks { looks reader.new ≡ looks reader.old + 1 }
         ensures answer { IfOk result (λ l. FindsNode (opened_with self.now) reader.new (the_group block group) key l.version l.node) }
+        ensures in_cluster { IfOk result (λ l. IfSome l.node (λ node. node < (opened_with self.now).size.nodes)) }
         ensures served { IfOk result (λ l. LoadsDataAlone (opened_with self.now) reader.new (the_group block group) l.version) }
         ensures changing { IfErr result (λ c. Changes reader.new (the_group block group) c.first c.second) }
     {

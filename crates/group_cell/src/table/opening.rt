@@ -6,6 +6,7 @@ ghost use Rattle.group_search.specs.Canon.{rows_in};
 ghost use Rattle.group_search.specs.Image.{Image};
 ghost use Rattle.group_search.specs.Words.{HasBits};
 ghost use Rattle.group_cell.specs.Opening.{HaveAllGroups};
+ghost use Rattle.group_cell.specs.Rule.{HasNodes};
 ghost use Rattle.group_cell.specs.Seats.{IsWriterOf, opened_with, published};
 
 use crate::layout::PLACES;
@@ -44,8 +45,9 @@ impl Model for TablePlan {
 impl TablePlan {
     /// The plan of the groups of these blocks, numbered from 0, at their opening records.
     ///
-    /// There is at least one image, no image has more than 64 rows in all, and served records have the cluster's value
-    /// bits. Memory is taken for the words, 2,560 octets a block, and for the tags of the places, 64 octets a block.
+    /// There is at least one image, no image has more than 64 rows in all, rows go to the cluster's nodes, and served
+    /// records have the cluster's value bits. Memory is taken for the words, 2,560 octets a block, and for the tags of
+    /// the places, 64 octets a block.
     pub fn of(
         alloc: Global,
         shape: Shape,
@@ -54,6 +56,7 @@ impl TablePlan {
         requires has_a_block { 0 < length images.items }
         requires rows { All (λ (image : Image). sum_by rows_in image.records ≤ 64) images.items }
         requires bits { All (λ (image : Image). All (HasBits (value_bits shape.nodes)) image.records) images.items }
+        requires in_cluster { All (λ (image : Image). All (HasNodes shape.nodes) image.records) images.items }
 
         ensures images { IfOk result (λ plan. plan.images ≡ images.items) }
         ensures size { IfOk result (λ plan. plan.size ≡ shape) }
@@ -82,9 +85,9 @@ fn copies(alloc: Global, images: &[BlockImage]) -> Result<Vec<BlockImage>, Alloc
 impl CellTable {
     /// A table of the groups of these blocks, numbered from 0, at their opening records, and its writer's seat.
     ///
-    /// There is at least one image, no image has more than 64 rows in all, and served records have the cluster's value
-    /// bits. Memory is taken for the table's words, 2,560 octets a block, and while it is opened for copies of the
-    /// images. `open_plan` opens many tables of the same images.
+    /// There is at least one image, no image has more than 64 rows in all, rows go to the cluster's nodes, and served
+    /// records have the cluster's value bits. Memory is taken for the table's words, 2,560 octets a block, and while it
+    /// is opened for copies of the images. `open_plan` opens many tables of the same images.
     pub fn open(
         alloc: Global,
         shape: Shape,
@@ -93,6 +96,7 @@ impl CellTable {
         requires has_a_block { 0 < length images.now }
         requires rows { All (λ (image : Image). sum_by rows_in image.records ≤ 64) images.now }
         requires bits { All (λ (image : Image). All (HasBits (value_bits shape.nodes)) image.records) images.now }
+        requires in_cluster { All (λ (image : Image). All (HasNodes shape.nodes) image.records) images.now }
 
         ensures images { IfOk result (λ r. (opened_with r.0).images ≡ images.now) }
         ensures size { IfOk result (λ r. (opened_with r.0).size ≡ shape) }

@@ -1,5 +1,5 @@
 //! The writer's look at its own table.
-ghost use Rattle.std.specs.Prelude.{◌≡◌, ℕ, ◌+◌, ◌^◌, ◌<◌, ◌≤◌, Option, length, slice_index};
+ghost use Rattle.std.specs.Prelude.{◌≡◌, ℕ, ◌+◌, ◌^◌, ◌<◌, ◌≤◌, IfSome, Option, length, slice_index};
 ghost use Rattle.group_search.specs.Published.{count};
 ghost use Rattle.group_cell.specs.Layout.{home_of, high, datum, tag};
 ghost use Rattle.group_cell.specs.Rule.{IsIn, Stands};
@@ -104,7 +104,7 @@ fn search(
 
 impl CellTable {
     /// Looks up a key in a group by the writer's seat: the node that the group's latest record gives it, and that
-    /// record's version. For a key that isn't in the group the node is arbitrary.
+    /// record's version. For a key that isn't in the group the node is any of the cluster's, or none.
     ///
     /// The key's home is the group. The block is one of the table's, the group is below 64, and the seat is this
     /// table's. Nothing changes.
@@ -116,6 +116,7 @@ impl CellTable {
         ensures kept { published writer.new ≡ published writer.old }
         ensures version { result.version ≡ count (published writer.old) (the_group block group) }
         ensures node { result.node ≡ node_at_version (opened_with self.now) (published writer.old) (the_group block group) result.version key }
+        ensures in_cluster { IfSome result.node (λ node. node < (opened_with self.now).size.nodes) }
     {
         let at = Address { block, group };
         let shelf = &self.table.shared;

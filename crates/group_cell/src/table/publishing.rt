@@ -4,7 +4,7 @@ ghost use Rattle.flow_types.specs.Size.{value_bits};
 ghost use Rattle.group_search.specs.Canon.{rows_in};
 ghost use Rattle.group_search.specs.Words.{HasBits, PacksTo, packed_of, words_of};
 ghost use Rattle.group_cell.specs.Layout.{home_of, sequence, datum};
-ghost use Rattle.group_cell.specs.Rule.{Holds, IsIn, IsSoundRecord, bits_of, rows_placed};
+ghost use Rattle.group_cell.specs.Rule.{HasNodes, Holds, IsIn, IsSoundRecord, nodes_of, rows_placed};
 ghost use Rattle.group_cell.specs.Plays.{begun, ended, publication, writer_view};
 ghost use Rattle.group_cell.specs.Seating.{IsAt, IsInWriting, IsWriterSeat, Writes, WritesData, words_of_seat};
 ghost use Rattle.group_cell.specs.Seats.{IsWriterOf, opened_with, published, rows_beside, the_group};
@@ -54,7 +54,7 @@ fn finish<C: Naming>(shelf: &Shelf, seat: &mut Place, at: Address, content: &Gro
     requires even { even ≡ sequence (words_of_seat seat.old) (home_of at) + 1 }
     requires named { content.now ≡ C.content }
     requires room { length (writer_view seat.old.me.0).published < 4294967295 }
-    requires holds { Holds (bits_of (writer_view seat.old.me.0).opening) (words_of_seat seat.old) (home_of at) content.now }
+    requires holds { Holds (nodes_of (writer_view seat.old.me.0).opening) (words_of_seat seat.old) (home_of at) content.now }
     ensures { Writes seat.old seat.new (ended (home_of at) content.now even (writer_view seat.old.me.0)) }
 {
     let _ = content;
@@ -77,11 +77,13 @@ impl CellTable {
     /// Appends a record of a group to the published list, and rewrites the group in place.
     ///
     /// The block is one of the table's, the group is below 64, and the seat is this table's. The record needs at most
-    /// `room` rows; a served record has the cluster's value bits; and fewer than 4,294,967,295 records were published.
+    /// `room` rows, which go to the cluster's nodes; a served record has the cluster's value bits; and fewer than
+    /// 4,294,967,295 records were published.
     pub fn publish(&self, writer: &mut WriterSeat, block: u16, group: u8, content: &GroupRecord)
         requires writer { IsWriterOf self.now writer.old }
         requires inside { IsIn (opened_with self.now) (the_group block group) }
         requires bits { HasBits (value_bits (opened_with self.now).size.nodes) content.now }
+        requires in_cluster { HasNodes (opened_with self.now).size.nodes content.now }
         requires room { rows_in content.now + rows_beside (opened_with self.now) (published writer.old) (the_group block group) ≤ 64 }
         requires few { length (published writer.old) < 4294967295 }
 

@@ -1,11 +1,11 @@
-use Rattle.std.proofs.Common.{arith, ◌≡◌, ℕ, ◌*◌, ◌/◌, ◌%◌, List, [], ◌++◌, map, inl, inr, refl, sym, ap, ◌∙◌, subst, eqb, ne_eqb, if◌then◌else◌, Bool, Option, Some, None}
+use Rattle.std.proofs.Common.{arith, ◌≡◌, ℕ, ◌*◌, ◌/◌, ◌%◌, List, [], ◌++◌, map, inl, inr, refl, ap, ◌∙◌, subst, eqb, ne_eqb, if◌then◌else◌, Bool, Option, Some, None}
 use Rattle.group_cell.specs.declared.view.Load.{Load}
 use Rattle.group_cell.specs.declared.view.Sight.{Sight}
 use Rattle.group_cell.specs.Layout.{address}
-use Rattle.group_cell.specs.Rule.{IsEven}
+use Rattle.group_cell.specs.Rule.{HasLoaded, IsEven}
 use Rattle.group_cell.specs.Seating.{data_loads, loads_of, look_in}
 use Rattle.group_cell.specs.Seats.{the_group, opened_with}
-use Rattle.group_cell.proofs.Answering.{counted_now, few_of_version, first_is, has_datum, has_looked, is_looking, last_begun, look_begun, node_is, opening_then, seen_now}
+use Rattle.group_cell.proofs.Answering.{counted_now, few_loaded, has_datum, has_looked, is_looking, last_begun, loaded_whole, look_begun, node_below, node_is}
 use Rattle.group_cell.proofs.Looking.{goes_on-trans}
 use Rattle.group_cell.proofs.table.CellTable.look.Goals as goal
 
@@ -32,27 +32,30 @@ pub returns-clause-answer : goal.returns-clause-answer
 returns-clause-answer c = let at = the_group c.args.block c.args.group in let first : ℕ = c.begin-first.result in let h = c.begin-first.ensures in let two = c.gather-words.ensures in
     let g = goes_on-trans _ _ _ two.goes_on c.search-found.ensures.goes_on in let l = c.search-found.ensures.looking in let e = c.end-second.ensures.view in
     let s0 = c.args.reader.now.seat in let s1 = c.begin-first.new.seat in let s3 = c.search-found.new.seat in let t = c.end-second.new.seat in
-    let even : IsEven first = (let no = c.if-first-eq1.false in omega arith) in let again = c.if-second-first.false in
-    let double : first ≡ 2 * (first / 2) = omega arith in
-    let opening_is = opening_then s0 s1 s3 t at first c.end-second.result h g l e in let now = seen_now s0 s1 s3 t at first c.end-second.result h g l e in
-    let counted = counted_now s0 s1 s3 t at first c.end-second.result h g l e in let first_of = first_is s0 s1 s3 t at first c.end-second.result h g l e in
-    let whole = c.end-second.ensures.whole (subst IsEven (sym first_of) even) (again ∙ sym first_of) in record {
-      version_is = counted;
-      node_is = node_is _ (opened_with c.args.self.now) _ _ _ _ at (first / 2) c.gather-words.result c.args.key c.search-found.result _ (opening_is ∙ c.requires.reader.one_opening) c.args.self.now.shaped (sym now) counted whole two.width
-          (λ j less. c.search-found.ensures.goes_on.loads _ (has_datum _ _ at _ two.loads j less)) c.search-found.ensures.found c.decoded.ensures;
+    let again = c.if-second-first.false in let even : IsEven first = (let no = c.if-first-eq1.false in omega arith) in let double : first ≡ 2 * (first / 2) = omega arith in
+    let whole = loaded_whole s0 s1 s3 t at first c.end-second.result h g l e (opened_with c.args.self.now) c.requires.reader.one_opening even again c.end-second.ensures.whole in record {
+      version_is = counted_now s0 s1 s3 t at first c.end-second.result h g l e;
+      node_is = node_is (opened_with c.args.self.now) _ _ c.gather-words.result c.args.key c.search-found.result _ c.args.self.now.shaped two.width c.decoded.ensures _ at whole
+          (λ j less. c.search-found.ensures.goes_on.loads _ (has_datum _ _ at _ two.loads j less)) c.search-found.ensures.found;
       this_look = record { loads = loads_of s3; last = has_looked s0 s1 s3 t at first c.end-second.result h g l e ∙ (λ i. Some record { at = address at; first = double i; second = Some ((again ∙ double) i); loads = loads_of s3 }) };
     }
+
+pub returns-clause-in_cluster : goal.returns-clause-in_cluster
+returns-clause-in_cluster c = let at = the_group c.args.block c.args.group in let first : ℕ = c.begin-first.result in let h = c.begin-first.ensures in let two = c.gather-words.ensures in
+    let g = goes_on-trans _ _ _ two.goes_on c.search-found.ensures.goes_on in let l = c.search-found.ensures.looking in let e = c.end-second.ensures.view in
+    let s0 = c.args.reader.now.seat in let s1 = c.begin-first.new.seat in let s3 = c.search-found.new.seat in let t = c.end-second.new.seat in
+    let again = c.if-second-first.false in let even : IsEven first = (let no = c.if-first-eq1.false in omega arith) in
+    let whole = loaded_whole s0 s1 s3 t at first c.end-second.result h g l e (opened_with c.args.self.now) c.requires.reader.one_opening even again c.end-second.ensures.whole in
+    node_below (opened_with c.args.self.now) _ _ c.gather-words.result c.args.key c.search-found.result _ c.args.self.now.shaped two.width c.decoded.ensures _ at whole
+    (λ j less. c.search-found.ensures.goes_on.loads _ (has_datum _ _ at _ two.loads j less)) c.search-found.ensures.found
 
 pub returns-clause-served : goal.returns-clause-served
 returns-clause-served c pairs served = let at = the_group c.args.block c.args.group in let first : ℕ = c.begin-first.result in let h = c.begin-first.ensures in let two = c.gather-words.ensures in
     let g = goes_on-trans _ _ _ two.goes_on c.search-found.ensures.goes_on in let l = c.search-found.ensures.looking in let e = c.end-second.ensures.view in
-    let s0 = c.args.reader.now.seat in let s1 = c.begin-first.new.seat in let s3 = c.search-found.new.seat in let t = c.end-second.new.seat in
-    let even : IsEven first = (let no = c.if-first-eq1.false in omega arith) in let again = c.if-second-first.false in
-    let opening_is = opening_then s0 s1 s3 t at first c.end-second.result h g l e in let now = seen_now s0 s1 s3 t at first c.end-second.result h g l e in
-    let counted = counted_now s0 s1 s3 t at first c.end-second.result h g l e in let first_of = first_is s0 s1 s3 t at first c.end-second.result h g l e in
-    let whole = c.end-second.ensures.whole (subst IsEven (sym first_of) even) (again ∙ sym first_of) in
-    let few = few_of_version _ (opened_with c.args.self.now) _ _ _ at (first / 2) _ pairs (opening_is ∙ c.requires.reader.one_opening) (sym now) counted whole
-    (c.search-found.ensures.goes_on.loads _ (has_datum _ _ at c.gather-words.result two.loads 0 (omega arith))) served in
+    let s0 = c.args.reader.now.seat in let s1 = c.begin-first.new.seat in let s3 = c.search-found.new.seat in let t = c.end-second.new.seat in let nodes = (opened_with c.args.self.now).size.nodes in
+    let again = c.if-second-first.false in let even : IsEven first = (let no = c.if-first-eq1.false in omega arith) in
+    let whole = loaded_whole s0 s1 s3 t at first c.end-second.result h g l e (opened_with c.args.self.now) c.requires.reader.one_opening even again c.end-second.ensures.whole in
+    let few = few_loaded nodes (loads_of s3) at pairs _ (subst (HasLoaded nodes (loads_of s3) at) served whole) (c.search-found.ensures.goes_on.loads _ (has_datum _ _ at c.gather-words.result two.loads 0 (omega arith))) in
     let loads_are : loads_of s3 ≡ data_loads at c.gather-words.result =
     c.search-found.ensures.no_loads few ∙ (two.loads ∙ ap (λ (q : Sight). q.loads ++ data_loads at c.gather-words.result) (look_begun _ _ _ _ h)) in
     ap (λ (o : Option Sight). map (λ (x : Load). x.word) (look_in o).loads) (has_looked s0 s1 s3 t at first c.end-second.result h g l e) ∙ ap (λ (xs : List Load). map (λ (x : Load). x.word) xs) loads_are

@@ -12,4 +12,4 @@ of_words-requires c =
     let key : c.of-about.result.value ≡ o = c.of-about.ensures in
     let words : c.as_slice-2.result.now ≡ o.words = c.as_slice-2.ensures.value ∙ ap (λ (x : Opened). x.words) c.opening.view_is in
     subst (λ (x : Opened × List ℕ). Kept {S = ℕ} x.0 (opening x.1 [] (first_view x.0))) (λ i. (sym key i, sym words i))
-    (opens ℕ o c.plan.inside.owners.items c.plan.invariant.laid c.plan.invariant.bits)
+    (opens ℕ o c.plan.inside.owners.items c.plan.invariant.laid c.plan.invariant.bits c.plan.invariant.in_cluster)

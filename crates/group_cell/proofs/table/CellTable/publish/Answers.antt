@@ -1,7 +1,8 @@
 use Rattle.std.proofs.Common.{arith, ◌≡◌, ◌≢◌, ℕ, ◌+◌, List, [], get_or, set, sym, ap, ◌∙◌, subst}
+use Rattle.flow_types.specs.Size.{value_bits}
 use Rattle.group_search.specs.declared.rows.Row.{Row}
 use Rattle.group_cell.specs.Opening.{Opened}
-use Rattle.group_cell.specs.Rule.{Holds, IsIn, RowsStand, bits_of}
+use Rattle.group_cell.specs.Rule.{Holds, IsIn, RowsStand, nodes_of}
 use Rattle.group_cell.specs.Plays.{writer_view}
 use Rattle.group_cell.specs.Seating.{Tallies, places_of, words_of_seat}
 use Rattle.group_cell.specs.Seats.{opened_with, the_group}
@@ -22,9 +23,9 @@ finish-requires-clause-holds c = let at = the_group c.args.block c.args.group in
     let s0 = c.args.writer.now.seat in let s1 = c.begin-version.new.seat in let s2 = c.vacate.new.seat in let s3 = c.lay_rows.new.seat in let s4 = c.write.new.seat in
     let b = c.begin-version.ensures.begun in let v = c.vacate.ensures.rewrites in let l = c.lay_rows.ensures.rewrites in let d = c.write.ensures.writes in
     let one = opening_now s0 s1 s2 s3 s4 at c.requires.inside.group (c.begin-version.result + 1) b v l d ∙ c.requires.writer.one_opening in
-    subst (λ (o : Opened). Holds (bits_of o) (words_of_seat s4) at c.args.content.now) (sym one)
-    (holds_now s0 s1 s2 s3 s4 at c.requires.inside.group (c.begin-version.result + 1) b v l d (bits_of (opened_with c.args.self.now)) c.args.content.now c.pack.result c.pack.ensures.value
-    (c.pack.ensures.kept (bits_of (opened_with c.args.self.now)) c.requires.bits) c.rows_kept.ensures.sound c.write.ensures.data_words
+    subst (λ (o : Opened). Holds (nodes_of o) (words_of_seat s4) at c.args.content.now) (sym one)
+    (holds_now s0 s1 s2 s3 s4 at c.requires.inside.group (c.begin-version.result + 1) b v l d (opened_with c.args.self.now).size.nodes c.args.content.now c.pack.result c.pack.ensures.value
+    (c.pack.ensures.kept (value_bits (opened_with c.args.self.now).size.nodes) c.requires.bits) c.rows_kept.ensures.sound c.requires.in_cluster c.write.ensures.data_words
     (subst (λ (rows : List Row). RowsStand (words_of_seat s3) at rows) c.rows_kept.ensures.value c.lay_rows.ensures.rows))
 
 pub invariant_of-writer : goal.invariant_of-writer

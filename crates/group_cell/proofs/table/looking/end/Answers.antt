@@ -2,7 +2,7 @@ use Rattle.std.proofs.Common.{arith, ap, sym, ◌∙◌, subst}
 use Rattle.group_cell.specs.declared.view.Address.{Address}
 use Rattle.group_cell.specs.Layout.{home_of, sequence_word}
 use Rattle.group_cell.specs.Plays.{reader_view}
-use Rattle.group_cell.specs.Rule.{HasLoaded, bits_of, latest}
+use Rattle.group_cell.specs.Rule.{HasLoaded, nodes_of, latest}
 use Rattle.group_cell.specs.Seating.{the_look, loads_of}
 use Rattle.group_cell.proofs.Keeps.{ends_look}
 use Rattle.group_cell.proofs.table.looking.end.Goals as goal
@@ -13,5 +13,5 @@ load-requires c = let wide = c.requires.inside.wide in let inside = c.requires.i
 
 pub returns-clause-whole : goal.returns-clause-whole
 returns-clause-whole c even again = let s = c.args.seat.now in let r = reader_view s.me.0 in
-    subst (λ (a : Address). HasLoaded (bits_of r.opening) (loads_of s) (home_of a) (latest r.opening r.seen (home_of a))) c.requires.group
+    subst (λ (a : Address). HasLoaded (nodes_of r.opening) (loads_of s) (home_of a) (latest r.opening r.seen (home_of a))) c.requires.group
     (c.load.ensures.2.1 (the_look s) c.requires.looking.last even again)

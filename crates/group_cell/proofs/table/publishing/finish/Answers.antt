@@ -1,7 +1,7 @@
 use Rattle.std.proofs.Common.{arith, ◌≡◌, sym, ap, ◌∙◌, subst}
 use Rattle.group_cell.specs.declared.view.View.TheVariants.{Writer}
 use Rattle.group_cell.specs.Layout.{home_of, home_of_word}
-use Rattle.group_cell.specs.Rule.{Holds, bits_of}
+use Rattle.group_cell.specs.Rule.{Holds, nodes_of}
 use Rattle.group_cell.specs.Plays.{writer_view, ended}
 use Rattle.group_cell.proofs.Groups.{home_back}
 use Rattle.group_cell.proofs.Keeps.{ends_writing}
@@ -13,7 +13,7 @@ store-requires g c = let wide = c.requires.inside.wide in let inside = c.require
       c.requires.own,
       omega arith,
       ends_writing _ _ _ _ c.requires.writing.writes (home_of c.args.at) inside C _ _ c.requires.writing.writing here c.requires.even (omega arith)
-          (λ _. subst (Holds (bits_of w.opening) w.words (home_of c.args.at)) c.requires.named c.requires.holds),
+          (λ _. subst (Holds (nodes_of w.opening) w.words (home_of c.args.at)) c.requires.named c.requires.holds),
     )
 
 pub returns : goal.returns
