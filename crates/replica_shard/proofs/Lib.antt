@@ -6,9 +6,10 @@ pub mod Cells
 pub mod FreeRows
 pub mod Taken
 pub mod Built
-pub mod Tables
 pub mod Below
+pub mod Tables
 pub mod Opened
 pub mod Room
 pub mod TurnFacts
 pub mod DeltaFacts
+pub mod Prefixes

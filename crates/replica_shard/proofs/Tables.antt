@@ -2,6 +2,7 @@
 use Rattle.std.proofs.Common.{◌≡◌, ◌∙◌, ℕ, ◌<◌, ◌≤◌, Bool, true, false, cond, List, [], length, map, get_or, Option, Some, None, refl, sym, ap, subst, arith}
 use Rattle.std.specs.Prelude.{All, nat_le, sum, sum_by}
 use Rattle.std.proofs.lemmas.List.{ext_get_or, get_or-map, length-map}
+use Rattle.std.proofs.lemmas.List.Elements.{All-filter}
 use Rattle.std.proofs.lemmas.List.FromFn.{get_or-map-range_with_len, length-map-range_with_len}
 use Rattle.std.proofs.lemmas.List.Sums.{sum-map}
 use Rattle.std.proofs.lemmas.Option.{slice_get-get_or}
@@ -14,16 +15,18 @@ use Rattle.group_search.specs.declared.record.GroupRecord.{GroupRecord}
 use Rattle.group_search.specs.declared.record.GroupRecord.TheVariants.{Served, Fallback}
 use Rattle.group_search.specs.Build.{IsBuild, IsImage, IsWithin, TellsTheFirst, needed, past_limit, rows_needed_in}
 use Rattle.group_search.specs.Canon.{canonical, fallback, least_pairs, rows_in, served_or}
-use Rattle.group_search.specs.Home.{Home, opening}
+use Rattle.group_search.specs.Home.{Home, home, is_home, opening}
 use Rattle.group_search.specs.Image.{Image}
 use Rattle.group_search.specs.Limits.{most_rows}
-use Rattle.group_search.specs.Records.{content_of, entries, record_of}
+use Rattle.group_search.specs.Records.{AreHandled, content_of, entries, record_of}
 use Rattle.group_search.specs.Rows.{rows_of}
 use Rattle.group_search.specs.Words.{HasBits}
 use Rattle.group_search.proofs.Chosen.{are_least}
 use Rattle.group_search.proofs.FirstPastLimit.{names_the_first}
 use Rattle.group_search.proofs.NeededRows.{rows_of_canonical}
+use Rattle.group_cell.specs.Rule.{HasNodes}
 use Rattle.replica_shard.specs.Store.{CanBeTables}
+use Rattle.replica_shard.proofs.Below.{content_nodes}
 
 -- ---- a canonical record has the shape's bits
 
@@ -58,6 +61,14 @@ module _ (size : Size) (flows : List Flow) (block : ℕ) (image : Image) (is : I
       let one_each = is.one_each in
       sym (is.records group (omega arith)) ∙ slice_get-get_or image.records group d low
 
+  image_nodes : AreHandled size.nodes flows → All (HasNodes size.nodes) image.records
+  unfolding record_of opening
+  image_nodes handled = λ group d low.
+      let one_each = is.one_each in
+      content_nodes size.nodes (opening size.blocks flows (at group))
+      (All-filter (λ (flow : Flow). is_home (home size.blocks flows flow.key) (at group)) (λ (flow : Flow). flow.node < size.nodes) flows handled)
+      (get_or image.records group d) (sym (is.records group (omega arith)) ∙ slice_get-get_or image.records group d low)
+
   image_bits : All (HasBits (value_bits size.nodes)) image.records
   image_bits = λ group d low. canonical_bits (value_bits size.nodes) (its_entries group) (get_or image.records group d) (canonical_at group d low)
 
@@ -86,12 +97,13 @@ module _ (size : Size) (flows : List Flow) (block : ℕ) (image : Image) (is : I
 within_all : (size : Size) (flows : List Flow) → past_limit size flows ≡ None → (block : ℕ) → block < size.blocks → IsWithin size flows block
 within_all size flows none = subst (TellsTheFirst size flows) none (names_the_first size flows)
 
-pub can_be_tables : (size : Size) (flows : List Flow) (images : List Image) → IsBuild size flows images → CanBeTables size images
-can_be_tables size flows images build =
+pub can_be_tables : (size : Size) (flows : List Flow) (images : List Image) → AreHandled size.nodes flows → IsBuild size flows images → CanBeTables size images
+can_be_tables size flows images handled build =
     let one_each = build.one_each in
     record {
       one_each = build.one_each;
       few_rows = λ block d low.
           image_rows size flows block (get_or images block d) (build.each block d (omega arith)) (within_all size flows build.within block (omega arith));
       bits = λ block d low. image_bits size flows block (get_or images block d) (build.each block d (omega arith));
+      in_cluster = λ block d low. image_nodes size flows block (get_or images block d) (build.each block d (omega arith)) handled;
     }

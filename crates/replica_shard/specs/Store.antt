@@ -11,7 +11,9 @@ use Rattle.group_search.specs.Canon.{rows_in}
 use Rattle.group_search.specs.Home.{Home}
 use Rattle.group_search.specs.Image.{Image}
 use Rattle.group_search.specs.Published.{count, records_of}
+use Rattle.group_search.specs.Records.{AreHandled}
 use Rattle.group_search.specs.Words.{HasBits}
+use Rattle.group_cell.specs.Rule.{HasNodes}
 use Rattle.replica_shard.specs.Shard.{ShardState, is_owned_block}
 
 -- what a contract sees of a shard and of a list of records that were taken: the records name the cluster's blocks
@@ -61,12 +63,14 @@ pub record AreOwnersImages (size : Size) (owner : ℕ) (images own : List Image)
   pub enough : size.blocks ≤ owner + size.nodes * length own
   pub each : (i : ℕ) → i < length own → slice_get own i ≡ slice_get images (owner + size.nodes * i)
 
--- there is an image for each block, each of at most 64 rows in all, and served records have the cluster's value bits
+-- there is an image for each block, each of at most 64 rows in all, which go to the cluster's nodes, and served records have
+-- the cluster's value bits
 pub record CanBeTables (size : Size) (images : List Image) : Type 0 where
   pub one_each : length images ≡ size.blocks
   pub few_rows : All (λ (image : Image). sum_by rows_in image.records ≤ 64) images
   pub bits : All (λ (image : Image). All (HasBits (value_bits size.nodes)) image.records) images
+  pub in_cluster : All (λ (image : Image). All (HasNodes size.nodes) image.records) images
 
--- so it is with the images of a build
+-- so it is with the images of a build of the cluster's flows
 abbrev pub BuildsCanBeTables : Type 0
-BuildsCanBeTables = (size : Size) (flows : List Flow) (images : List Image) → IsBuild size flows images → CanBeTables size images
+BuildsCanBeTables = (size : Size) (flows : List Flow) (images : List Image) → AreHandled size.nodes flows → IsBuild size flows images → CanBeTables size images

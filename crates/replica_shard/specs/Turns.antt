@@ -15,6 +15,7 @@ use Rattle.replica_shard.specs.Message.{IsTableMessage, IsTableMessageOf}
 use Rattle.replica_shard.specs.Owners.{publication_of}
 use Rattle.replica_shard.specs.Routed.{decoded}
 use Rattle.replica_shard.specs.Shard.{content_after, home_in_state, route_in_state, shard_after, with_content}
+use Rattle.replica_shard.specs.Store.{ShardStore, shard_state_of}
 
 -- the change is of a group of one of the owner's blocks
 pub record IsOfOwner (size : Size) (owner : ℕ) (change : Change) : Type 0 where
@@ -44,6 +45,20 @@ abbrev pub TurnsTellDeltas : Type 0
 TurnsTellDeltas = (size : Size) (owner : ℕ) (flows : List Flow) (changes : List Change) (messages : List TableMessage)
     → AreTableMessagesOf size owner flows changes messages
     → map delta_told (map publication_of messages) ≡ take (length messages) (deltas size flows changes)
+
+-- the shard is that after so many of its owner's turns, and its records tell as many of the owner's deltas
+pub record IsAfterTurns (size : Size) (owner : ℕ) (flows : List Flow) (changes : List Change) (turns : ℕ) (shard : ShardStore) : Type 0 where
+  pub state : shard_state_of shard ≡ shard_after size owner flows (take turns changes)
+  pub tells : map delta_told shard.list ≡ take turns (deltas size flows changes)
+
+-- at any first part of the records of an owner's first messages, so whatever a reader may have seen of them, the opened shard
+-- is that after as many turns
+abbrev pub PrefixesAreTurns : Type 0
+PrefixesAreTurns = (size : Size) (owner : ℕ) (flows : List Flow) (changes : List Change) (messages : List TableMessage) (opened : ShardStore)
+    → All (IsOfOwner size owner) changes → AreTableMessagesOf size owner flows changes messages
+    → shard_state_of (record opened { list = [] }) ≡ shard_after size owner flows []
+    → (turns : ℕ) → turns ≤ length messages
+    → IsAfterTurns size owner flows changes turns (record opened { list = take turns (map publication_of messages) })
 
 -- after changes of its owner a shard has the keys of the owner's blocks at the homes that the flows give them
 abbrev pub HomesStay : Type 0

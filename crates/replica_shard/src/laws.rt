@@ -3,7 +3,7 @@
 
 ghost use Rattle.replica_shard.specs.Routed.{BuildReachesHandlers, StaysInCluster};
 ghost use Rattle.replica_shard.specs.Store.{BuildsCanBeTables};
-ghost use Rattle.replica_shard.specs.Turns.{HomesStay, RoutesFollowChanges, TableTurnsGoOn, TurnsMakeTable, TurnsTellDeltas};
+ghost use Rattle.replica_shard.specs.Turns.{HomesStay, PrefixesAreTurns, RoutesFollowChanges, TableTurnsGoOn, TurnsMakeTable, TurnsTellDeltas};
 
 /// Where the flows can be built, the key of each flow is sent to the flow's handler.
 #[tactic(auto, using(crate::proofs::Built::routed_to_handlers))]
@@ -17,7 +17,7 @@ pub fn routes_stay_in_the_cluster()
     ensures { StaysInCluster }
 {}
 
-/// A shard can be opened with the images of a build.
+/// A shard can be opened with the images of a build of the cluster's flows.
 #[tactic(auto, using(crate::proofs::Tables::can_be_tables))]
 pub fn builds_can_be_tables()
     ensures { BuildsCanBeTables }
@@ -33,6 +33,12 @@ pub fn a_turn_goes_on()
 pub fn turns_make_the_table()
     ensures table { TurnsMakeTable }
     ensures list { TurnsTellDeltas }
+{}
+
+/// Whatever a reader has seen of an owner's first turns, it has the table after as many of them: that of the first of
+/// the owner's deltas.
+pub fn prefixes_are_turns()
+    ensures { PrefixesAreTurns }
 {}
 
 /// After changes of its owner a shard sends each key of the owner's blocks where the canonical record of the key's group

@@ -14,9 +14,10 @@
 //! Only `open`, `open_plan` and `ShardPlan::of` take memory, and no call waits. Proved, for every interleaving of loads and
 //! stores: each call's exact answer; that a shard takes its owner's next turn and no other, and after a refusal is as it
 //! was; that one opened with the images of a cluster's flows, which took the first turns of its owner, has the canonical
-//! record of each group's map after these turns, and the number of the group's changes as its version. `open` may answer
-//! want of memory at any time. Not said: that a route ever succeeds beside a writer that never rests. Only tested: that
-//! memory suffices, and that threads ran.
+//! record of each group's map after these turns, and the number of the group's changes as its version, and so has what a
+//! reader has seen of it; that a route goes to no node but the cluster's. `open` may answer want of memory at any time. Not
+//! said: that a route ever succeeds beside a writer that never rests. Only tested: that memory suffices, and that threads
+//! ran.
 #![tactic(auto)]
 
 pub mod laws;
@@ -25,6 +26,7 @@ mod routing;
 mod shard;
 #[cfg(test)]
 mod tests;
+mod threads;
 
 pub use group_cell::Changing;
 pub use laws::{build_reaches_handlers, routes_stay_in_the_cluster};

@@ -2,6 +2,7 @@ ghost use Rattle.std.specs.Prelude.{◌≡◌, ◌<◌, ◌≤◌, All, IfOk, If
 ghost use Rattle.group_search.specs.Canon.{rows_in};
 ghost use Rattle.group_search.specs.Owned.{IsOwned};
 ghost use Rattle.group_search.specs.Words.{HasBits};
+ghost use Rattle.group_cell.specs.Rule.{HasNodes};
 ghost use Rattle.replica_shard.specs.Seats.{IsShardReaderOf, IsShardWriterOf};
 
 use crate::{Route, Shard, ShardReader, ShardRefused, ShardWriter, laws};
@@ -28,6 +29,7 @@ fn key_of_port(source_port: u16) -> FlowKey {
 /// A record that gives each key this value of two bits.
 fn giving(value: u8) -> GroupRecord
     ensures bits { HasBits 2 result }
+    ensures in_cluster { HasNodes 4 result }
     ensures rows { rows_in result ≡ 0 }
 {
     let pair = |bit: u8| Pair {
@@ -55,6 +57,7 @@ fn of_rows(alloc: Global, count: u16) -> Result<GroupRecord, Fail> {
 fn image(alloc: Global, value: u8) -> Result<BlockImage, AllocError>
     ensures rows { IfOk result (λ image. sum_by rows_in image.records ≤ 64) }
     ensures bits { IfOk result (λ image. All (HasBits 2) image.records) }
+    ensures in_cluster { IfOk result (λ image. All (HasNodes 4) image.records) }
 {
     let mut records = Vec::new(alloc);
     'records: for _ in 0..64u8 {
@@ -425,5 +428,6 @@ fn laws_can_be_called() {
     laws::builds_can_be_tables();
     laws::a_turn_goes_on();
     laws::turns_make_the_table();
+    laws::prefixes_are_turns();
     laws::routes_follow_changes();
 }

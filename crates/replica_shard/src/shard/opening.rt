@@ -17,9 +17,9 @@ impl Shard {
     /// The shard of the owner's blocks among the images of all blocks, which stand in the order of their blocks, and
     /// its writer's seat.
     ///
-    /// The owner is one of the cluster's nodes and has at least one block. No image has more than 64 rows in all, and
-    /// served records have the cluster's value bits, as a build's have. All its room is taken at once, 320 words a
-    /// block; the images aren't kept. `open_plan` opens the shards of many nodes.
+    /// The owner is one of the cluster's nodes and has at least one block. No image has more than 64 rows in all, rows
+    /// go to the cluster's nodes, and served records have its value bits, as a build's. All its room is taken at once,
+    /// 320 words a block; the images aren't kept. `open_plan` opens the shards of many nodes.
     pub fn open(
         alloc: Global,
         shape: Shape,

@@ -40,8 +40,8 @@ impl Model for ShardPlan {
 impl ShardPlan {
     /// The plan for the owner's blocks among the images of all blocks, which stand in the order of their blocks.
     ///
-    /// The owner is one of the cluster's nodes and has at least one block. No image has more than 64 rows in all, and
-    /// served records have the cluster's value bits, as a build's have.
+    /// The owner is one of the cluster's nodes and has at least one block. No image has more than 64 rows in all, rows
+    /// go to the cluster's nodes, and served records have its value bits, as a build's.
     pub fn of(
         alloc: Global,
         shape: Shape,

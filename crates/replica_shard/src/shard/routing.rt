@@ -1,5 +1,5 @@
 //! Keys are sent to nodes.
-ghost use Rattle.std.specs.Prelude.{◌≡◌, ◌+◌, ◌*◌, ◌/◌, ◌%◌, ◌<◌, List, IfErr, IfOk};
+ghost use Rattle.std.specs.Prelude.{◌≡◌, ◌+◌, ◌*◌, ◌/◌, ◌%◌, ◌<◌, List, IfErr, IfOk, IfSome};
 ghost use Rattle.group_cell.specs.Rule.{IsIn};
 ghost use Rattle.group_cell.specs.Seats.{opened_with, the_group};
 ghost use Rattle.group_search.specs.Owned.{IsOwned};
@@ -20,8 +20,8 @@ use hash_family::{Place, place};
 
 impl Shard {
     /// Where the table sends a key, as far as this reader has then seen: the node that one whole record of the key's
-    /// group gives it, which is arbitrary for a key that isn't known, and that record's version; or `Changing`, where
-    /// the group was being rewritten.
+    /// group gives it, which is any of the cluster's for a key that isn't known, and that record's version; or
+    /// `Changing`, where the group was being rewritten.
     ///
     /// The key's block belongs to the owner, and the seat is this shard's. What the reader has seen only grows. It takes
     /// no memory and waits for nobody, and nothing says that it ever succeeds beside a writer that never rests.
@@ -32,6 +32,7 @@ impl Shard {
         ensures later { Extends (seen_list self.now reader.old) (seen_list self.now reader.new) }
         ensures looks { first_loads reader.new ≡ first_loads reader.old + 1 }
         ensures answer { IfOk result (λ route. route ≡ route_in_state (shard_state_of (shard_seen self.now reader.new)) (hash.place self.now.shape.blocks key) key) }
+        ensures in_cluster { IfOk result (λ route. IfSome route.node (λ node. node < self.now.shape.nodes)) }
         ensures this_look { IfOk result (λ route.
             HasRouted self.now reader.new (home_in_state (shard_state_of (shard_seen self.now reader.new)) (hash.place self.now.shape.blocks key)) (2 * route.version) (2 * route.version)) }
         ensures changing { IfErr result (λ c.
@@ -56,6 +57,7 @@ impl Shard {
         ensures later { Extends (seen_list self.now reader.old) (seen_list self.now reader.new) }
         ensures looks { first_loads reader.new ≡ first_loads reader.old + 1 }
         ensures answer { IfOk result (λ route. route ≡ route_in_state (shard_state_of (shard_seen self.now reader.new)) at key) }
+        ensures in_cluster { IfOk result (λ route. IfSome route.node (λ node. node < self.now.shape.nodes)) }
         ensures this_look { IfOk result (λ route.
             HasRouted self.now reader.new (home_in_state (shard_state_of (shard_seen self.now reader.new)) at) (2 * route.version) (2 * route.version)) }
         ensures changing { IfErr result (λ c.
@@ -80,6 +82,7 @@ impl Shard {
         ensures writer { IsShardWriterOf self.now writer.new }
         ensures kept { taken_list self.now writer.new ≡ taken_list self.now writer.old }
         ensures answer { result ≡ route_in_state (shard_state_of (shard_taken self.now writer.old)) (hash.place self.now.shape.blocks key) key }
+        ensures in_cluster { IfSome result.node (λ node. node < self.now.shape.nodes) }
     {
         self.route_own_at(writer, place(self.shape, key), key)
     }
@@ -94,17 +97,21 @@ impl Shard {
         ensures writer { IsShardWriterOf self.now writer.new }
         ensures kept { taken_list self.now writer.new ≡ taken_list self.now writer.old }
         ensures answer { result ≡ route_in_state (shard_state_of (shard_taken self.now writer.old)) at key }
+        ensures in_cluster { IfSome result.node (λ node. node < self.now.shape.nodes) }
     {
         let (block, group) = self.cell(at);
         let Look { version, node } = self.table.look_own(&mut writer.seat, block, group, key);
         Route { version, node }
     }
 
-    /// The block and the group of a key, whose block belongs to the owner. It takes no memory.
+    /// The block and the group of a key, whose block belongs to the owner: the group for which the owner's FIB may be
+    /// asked. It takes no memory.
     pub fn home(&self, key: FlowKey) -> (u16, u8)
         requires { IsOwned self.now.shape self.now.owner key }
         ensures home { (list : List Publication) →
             record { block = result.0; group = result.1 } ≡ home_in_state (shard_state_of (shard_at self.now list)) (hash.place self.now.shape.blocks key) }
+        ensures within { result.0 < self.now.shape.blocks }
+        ensures owned { result.0 % self.now.shape.nodes ≡ self.now.owner }
         ensures in_block { result.1 < 64 }
     {
         self.home_at(place(self.shape, key))
@@ -117,6 +124,8 @@ impl Shard {
         requires owned { at.block % self.now.shape.nodes ≡ self.now.owner }
         requires within { at.block < self.now.shape.blocks }
         ensures home { (list : List Publication) → record { block = result.0; group = result.1 } ≡ home_in_state (shard_state_of (shard_at self.now list)) at }
+        ensures within { result.0 < self.now.shape.blocks }
+        ensures owned { result.0 % self.now.shape.nodes ≡ self.now.owner }
         ensures in_block { result.1 < 64 }
     {
         let (_, group) = self.cell(at);

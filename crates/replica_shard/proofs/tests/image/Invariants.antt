@@ -2,7 +2,8 @@ use Rattle.std.proofs.Common.{◌≡◌}
 use Rattle.std.specs.Prelude.{All, sum_by, length}
 use Rattle.group_search.specs.Canon.{rows_in}
 use Rattle.group_search.specs.Words.{HasBits}
+use Rattle.group_cell.specs.Rule.{HasNodes}
 use Rattle.replica_shard.proofs.tests.image.Given as goal
 
 abbrev pub invariant-records : goal.invariant-records
-invariant-records l = (length l.records.items ≡ l.counter) × (sum_by rows_in l.records.items ≡ 0) × All (HasBits 2) l.records.items
+invariant-records l = (length l.records.items ≡ l.counter) × (sum_by rows_in l.records.items ≡ 0) × All (HasBits 2) l.records.items × All (HasNodes 4) l.records.items
