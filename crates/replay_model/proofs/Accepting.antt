@@ -1,7 +1,9 @@
 -- What an update makes of the journals.
-use Rattle.std.proofs.Common.{◌≡◌, ◌≢◌, ◌∙◌, ◌<◌, ◌≤◌, ℕ, List, [], ◌∷◌, ◌++◌, length, get_or, set, Option, Some, None, ⊎_elim, refl, sym, ap, subst, arith}
+use Rattle.std.proofs.Common.{◌≡◌, ◌≢◌, ◌∙◌, ◌<◌, ◌≤◌, ℕ, List, [], ◌∷◌, ◌++◌, length, get_or, replicate, set, Option, Some, None, ⊎_elim, refl, sym, ap, subst, arith}
+use Rattle.std.specs.Prelude.{All}
 use Rattle.std.proofs.lemmas.Bool.{cases_eq, cases_lt}
-use Rattle.std.proofs.lemmas.List.{get_or-set_other, get_or-set_same, set_past, take_all}
+use Rattle.std.proofs.lemmas.List.{get_or-replicate, get_or-set_other, get_or-set_same, get_or_past, length-replicate, set_past, take_all}
+use Rattle.std.proofs.lemmas.List.Elements.{All-head, All-tail}
 use Rattle.group_history.specs.declared.change.Change.{Change}
 use Rattle.packet_reader.specs.declared.event.Event.{Event}
 use Rattle.packet_reader.specs.declared.event.Event.TheVariants.{Set, Del, Packet, Carry, Sync}
@@ -10,10 +12,13 @@ use Rattle.rib_owner.specs.declared.update.Update.TheVariants as update
 use Rattle.rib_owner.specs.declared.refused.UpdateRefused.{UpdateRefused}
 use Rattle.rib_owner.specs.Acceptance.{change_of}
 use Rattle.replay_model.specs.Allowed.{phase_end}
-use Rattle.replay_model.specs.State.{Journals, ClusterOpening, journal_of}
+use Rattle.replay_model.specs.Laws.{CanBeOpened, IsRow, no_journals}
+pub use Rattle.replay_model.specs.Sound.{AreSoundJournals}
+use Rattle.replay_model.specs.Sound.{AreSound, AreSoundAlong}
+use Rattle.replay_model.specs.State.{Grows, Journals, ClusterOpening, journal_of}
 use Rattle.replay_model.specs.Updates.{after_update, journals_by, update_owner, verdict}
-use Rattle.replay_model.proofs.Cuts.{Grows, grows-by, grows-not, grows-on}
-use Rattle.replay_model.proofs.Maps.{AreSound, AreSoundAlong, FitsMaps, along-more, sound-more}
+use Rattle.replay_model.proofs.Cuts.{grows-by, grows-not, grows-on}
+use Rattle.replay_model.proofs.Maps.{FitsMaps, along-more, along-none, sound-more, sound-none}
 
 -- what holds of the journals of an update's owner, before it and with it, and of journals that stay, holds of all
 pushed : (Holds : List Change → Type 0) (journals : Journals) (at owner : ℕ) (change : Change) → Holds (journal_of journals at)
@@ -32,6 +37,14 @@ pushed Holds journals at owner change stays longer =
     (λ (other : at ≢ owner).
     subst Holds (sym (get_or-set_other journals owner at (journal_of journals owner ++ change ∷ []) [] other)) stays)
     (cases_eq at owner)
+
+-- an owner that has accepted nothing
+pub empty-journal : (nodes owner : ℕ) → journal_of (replicate nodes []) owner ≡ []
+empty-journal nodes owner =
+    ⊎_elim
+    (λ (within : owner < nodes). get_or-replicate nodes owner [] [] within)
+    (λ (past : nodes ≤ owner). get_or_past (replicate nodes []) owner [] (omega (arith, past, length-replicate {A = List Change} nodes [])))
+    (cases_lt owner nodes)
 
 module _ (opened : ClusterOpening) where
   grows-case : (journals : Journals) (owner at : ℕ) (change : Change) (why : Option UpdateRefused) → Grows (journal_of journals at) (journal_of (journals_by journals owner change why) at)
@@ -58,12 +71,15 @@ module _ (opened : ClusterOpening) where
   phase-grows (Carry node of turn part ∷ script) journals owner = phase-grows script journals owner
   phase-grows (Sync ∷ script) journals owner = grows-not (journal_of journals owner)
 
-  -- each group has a sound map along each journal
-  abbrev pub AreSoundJournals : Journals → Type 0
-  AreSoundJournals journals = (owner : ℕ) → AreSoundAlong opened.size opened.flows (journal_of journals owner)
+  -- ---- maps stay sound
+
+  pub sound-first : CanBeOpened opened → AreSoundJournals opened (no_journals opened)
+  sound-first can owner =
+      subst (AreSoundAlong opened.size opened.flows) (sym (empty-journal opened.size.nodes owner))
+      (along-none opened.size opened.flows (sound-none opened.size opened.flows can.distinct can.handled can.values can.within))
 
   sound-case : (journals : Journals) (update : Update) (at : ℕ) (why : Option UpdateRefused) → verdict opened journals update ≡ why → FitsMaps opened.size.nodes update
-      → AreSoundJournals journals
+      → AreSoundJournals opened journals
       → AreSoundAlong opened.size opened.flows (journal_of (journals_by journals (update_owner opened update) (change_of opened.size opened.flows update) why) at)
   sound-case journals update at None accepted fits sounds =
       let owner = update_owner opened update in
@@ -74,6 +90,22 @@ module _ (opened : ClusterOpening) where
       (subst (AreSound opened.size opened.flows) (take_all (length journal) journal (omega arith)) (sounds owner (length journal))) accepted))
   sound-case journals update at (Some refused) why fits sounds = sounds at
 
-  pub update-sound : (journals : Journals) (update : Update) → FitsMaps opened.size.nodes update → AreSoundJournals journals → AreSoundJournals (after_update opened journals update)
+  pub update-sound : (journals : Journals) (update : Update) → FitsMaps opened.size.nodes update → AreSoundJournals opened journals → AreSoundJournals opened (after_update opened journals update)
   unfolding after_update
   update-sound journals update fits sounds owner = sound-case journals update owner (verdict opened journals update) refl fits sounds
+
+  -- so they do up to the end of a phase
+  pub sound-end : (script : List Event) (now : Journals) → All (IsRow opened) script → AreSoundJournals opened now → AreSoundJournals opened (phase_end opened now script)
+  unfolding phase_end
+  sound-end [] now rows sounds = sounds
+  sound-end (Set flow ∷ script) now rows sounds =
+      let this = All-head (IsRow opened) (Set flow) script rows in
+      sound-end script (after_update opened now (update.Set flow)) (All-tail (IsRow opened) (Set flow) script rows)
+      (update-sound now (update.Set flow) (record { handled = this.in_range; value = this.value }) sounds)
+  sound-end (Del key ∷ script) now rows sounds =
+      let this = All-head (IsRow opened) (Del key) script rows in
+      sound-end script (after_update opened now (update.Del key)) (All-tail (IsRow opened) (Del key) script rows)
+      (update-sound now (update.Del key) (record { handled = tt; value = this.value }) sounds)
+  sound-end (Packet ingress key ∷ script) now rows sounds = sound-end script now (All-tail (IsRow opened) (Packet ingress key) script rows) sounds
+  sound-end (Carry node owner turn part ∷ script) now rows sounds = sound-end script now (All-tail (IsRow opened) (Carry node owner turn part) script rows) sounds
+  sound-end (Sync ∷ script) now rows sounds = sounds

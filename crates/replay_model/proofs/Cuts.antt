@@ -9,11 +9,7 @@ use Rattle.group_history.specs.declared.change.Change.{Change}
 use Rattle.group_history.specs.Journal.{change_count, concerning}
 use Rattle.group_history.proofs.Versions.{concerning_later}
 use Rattle.replay_model.specs.Allowed.{IsNextCut}
-
--- the one journal is the other with changes added at its end
-pub record Grows (before after : List Change) : Type 0 where
-  pub more : List Change
-  pub is : after ≡ before ++ more
+pub use Rattle.replay_model.specs.State.{Grows}
 
 pub grows-not : (changes : List Change) → Grows changes changes
 grows-not changes = record { more = []; is = sym (append-nil changes) }

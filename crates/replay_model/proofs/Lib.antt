@@ -3,9 +3,10 @@ pub mod Maps
 pub mod Accepting
 pub mod Taking
 pub mod Firsts
+pub mod Records
+pub mod Paths
 pub mod Answering
 pub mod Replays
 pub mod OneVersion
-pub mod Records
 pub mod NeverBack
 pub mod Parts

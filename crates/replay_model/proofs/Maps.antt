@@ -1,5 +1,5 @@
 -- The map of each group along a journal: it is a map of flows at nodes of the cluster, and it has a canonical record.
-use Rattle.std.proofs.Common.{◌≡◌, ◌≢◌, ◌<◌, ◌≤◌, ℕ, Bool, true, false, cond, List, [], ◌∷◌, ◌++◌, length, take, Option, Some, None, ⊎_elim, refl, sym, subst, arith}
+use Rattle.std.proofs.Common.{◌≡◌, ◌≢◌, ◌<◌, ◌≤◌, ℕ, Bool, true, false, cond, List, [], ◌∷◌, ◌++◌, length, Option, Some, None, ⊎_elim, refl, sym, subst, arith}
 use Rattle.std.proofs.lemmas.Bool.{and_parts, cases_lt, eqb-true}
 use Rattle.std.proofs.lemmas.List.{take-append-le, take_all, length_push}
 use Rattle.std.proofs.lemmas.List.Elements.{All-filter, All-push}
@@ -31,14 +31,7 @@ use Rattle.rib_owner.proofs.Sums.{part_of_sum}
 use Rattle.rib_owner.proofs.Rows.{length-entries}
 use Rattle.partial_fib.specs.Answering.{HaveKeyValues}
 use Rattle.partial_fib.proofs.MapAnswers.{values-step}
-
--- a map from keys in range to so many nodes, with its canonical record
-pub record IsSound (nodes : ℕ) (flows : List Flow) : Type 0 where
-  pub distinct : AreDistinct flows
-  pub handled : AreHandled nodes flows
-  pub values : HaveKeyValues flows
-  pub content : GroupRecord
-  pub content_is : content_of nodes flows ≡ Some content
+pub use Rattle.replay_model.specs.Sound.{AreSound, AreSoundAlong, IsSound}
 
 -- ---- what has a canonical record
 
@@ -140,15 +133,11 @@ module _ (size : Size) (flows : List Flow) (update : Update) where
 -- ---- the maps after a journal's changes
 
 module _ (size : Size) (flows : List Flow) where
-  -- each group of the table has a sound map after these changes
-  abbrev pub AreSound : List Change → Type 0
-  AreSound changes = (at : Home) → at.block < size.blocks → at.group < 64 → IsSound size.nodes (map_now size flows changes at)
-
-  pub sound-none : AreDistinct flows → AreHandled size.nodes flows → HaveKeyValues flows → past_limit size flows ≡ None → AreSound []
+  pub sound-none : AreDistinct flows → AreHandled size.nodes flows → HaveKeyValues flows → past_limit size flows ≡ None → AreSound size flows []
   unfolding map_now now changed concerning
   sound-none distinct handled values within at block group = opening-sound size flows distinct handled values within at block group
 
-  module _ (update : Update) (fits : FitsMaps size.nodes update) (changes : List Change) (sounds : AreSound changes)
+  module _ (update : Update) (fits : FitsMaps size.nodes update) (changes : List Change) (sounds : AreSound size flows changes)
       (accepted : refusal update (grounds size flows changes update) ≡ None) where
     change : Change
     change = change_of size flows update
@@ -180,21 +169,19 @@ module _ (size : Size) (flows : List Flow) where
     more-case at block group false other =
         rw (now_other at (opening size.blocks flows at) changes change other) (sounds at block group)
 
-    pub sound-more : AreSound (changes ++ change_of size flows update ∷ [])
+    pub sound-more : AreSound size flows (changes ++ change_of size flows update ∷ [])
     unfolding change
     sound-more at block group = more-case at block group (concerns at change) refl
 
-  -- so it is along a journal
-  abbrev pub AreSoundAlong : List Change → Type 0
-  AreSoundAlong journal = (turns : ℕ) → AreSound (take turns journal)
+  -- ---- along a journal
 
-  pub along-none : AreSound [] → AreSoundAlong []
-  along-none sounds turns = subst AreSound (sym (take_all turns [] (omega arith))) sounds
+  pub along-none : AreSound size flows [] → AreSoundAlong size flows []
+  along-none sounds turns = subst (AreSound size flows) (sym (take_all turns [] (omega arith))) sounds
 
-  pub along-more : (journal : List Change) (change : Change) → AreSoundAlong journal → AreSound (journal ++ change ∷ []) → AreSoundAlong (journal ++ change ∷ [])
+  pub along-more : (journal : List Change) (change : Change) → AreSoundAlong size flows journal → AreSound size flows (journal ++ change ∷ []) → AreSoundAlong size flows (journal ++ change ∷ [])
   along-more journal change along last turns =
       ⊎_elim
       (λ (past : length journal < turns).
-      subst AreSound (sym (take_all turns (journal ++ change ∷ []) (omega (arith, past, length_push journal change)))) last)
-      (λ (within : turns ≤ length journal). subst AreSound (sym (take-append-le turns journal (change ∷ []) within)) (along turns))
+      subst (AreSound size flows) (sym (take_all turns (journal ++ change ∷ []) (omega (arith, past, length_push journal change)))) last)
+      (λ (within : turns ≤ length journal). subst (AreSound size flows) (sym (take-append-le turns journal (change ∷ []) within)) (along turns))
       (cases_lt (length journal) turns)

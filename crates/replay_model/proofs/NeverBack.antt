@@ -18,10 +18,10 @@ use Rattle.replay_model.specs.Allowed.{AllowedFrom, Cuts, Moment, PathThen, begi
 use Rattle.replay_model.specs.Carrying.{after_carry, after_sync}
 use Rattle.replay_model.specs.Lanes.{NeverFalls, StaysFrom, StoodAt}
 use Rattle.replay_model.specs.Laws.{NoLaneGoesBack}
+use Rattle.replay_model.specs.Paths.{cuts_of}
 use Rattle.replay_model.specs.State.{Journals, ClusterOpening, Taken, home_of_key, journal_of, owner_of_group}
 use Rattle.replay_model.specs.Updates.{after_update}
 use Rattle.replay_model.proofs.Accepting.{phase-grows}
-use Rattle.replay_model.proofs.Answering.{cuts_of}
 use Rattle.replay_model.proofs.Cuts.{Grows, count-grows, grown-take, grows-to-take, take-grows}
 
 -- ---- counts up to a cut

@@ -5,15 +5,17 @@ use Rattle.flow_types.specs.declared.record.Record.{Record}
 use Rattle.group_history.specs.declared.change.Change.{Change}
 use Rattle.packet_reader.specs.declared.event.Event.{Event}
 use Rattle.packet_reader.specs.declared.event.Event.TheVariants.{Set, Del, Packet, Carry, Sync}
+use Rattle.packet_reader.specs.declared.event.Part.TheVariants.{Table, Fib}
 use Rattle.rib_owner.specs.Rib.{map_now}
 use Rattle.replay_model.specs.Allowed.{phase_end}
 use Rattle.replay_model.specs.Laws.{ReplaysGoByRecords}
-use Rattle.replay_model.specs.Packets.{answer_of, first_changes, packet_reply, fib_record_after, reply_sent, routed_after, version_after}
+use Rattle.replay_model.specs.Carrying.{turns_taken}
+use Rattle.replay_model.specs.Packets.{Stood, answer_of, first_changes, packet_reply, fib_record_after, reply_by_turns, reply_sent, routed_after, version_after}
 use Rattle.replay_model.specs.Replaying.{fresh, replayed_with_updates, replies_from, reply_in, state_after}
-use Rattle.replay_model.specs.State.{Journals, ClusterOpening, ClusterState, Taken, fib_turns, home_of_key, journal_of, owner_of_group, table_turns}
+use Rattle.replay_model.specs.State.{Journals, ClusterOpening, ClusterState, Grows, Taken, home_of_key, journal_of, owner_of_group}
 use Rattle.replay_model.specs.Told.{EachPacket, GoesByRecord, RoutesBy}
 use Rattle.replay_model.proofs.Accepting.{phase-grows}
-use Rattle.replay_model.proofs.Cuts.{Grows}
+use Rattle.replay_model.proofs.Cuts.{grows-not}
 use Rattle.replay_model.proofs.Firsts.{at-first}
 
 module _ (opened : ClusterOpening) (journals end : Journals) (key : FlowKey) (turns : ℕ) (here : ℕ → List Change)
@@ -38,14 +40,22 @@ module _ (opened : ClusterOpening) (journals end : Journals) (key : FlowKey) (tu
   goes (Some node) is = answered node (version_after opened (here node) key) (fib_record_after opened (here node) node key) is
   goes None is = routes None is
 
+-- whatever turns tables and FIBs have
+pub goes-by-record : (opened : ClusterOpening) (journals : Journals) (stood : Stood) (ingress : ℕ) (key : FlowKey)
+    → GoesByRecord opened journals key (reply_by_turns opened journals stood ingress key)
+goes-by-record opened journals stood ingress key =
+    let owner = owner_of_group opened (home_of_key opened key) in
+    goes opened journals journals key (stood Table ingress owner) (λ (node : ℕ). first_changes opened journals key (stood Fib node owner)) (grows-not (journal_of journals owner))
+    (routed_after opened (first_changes opened journals key (stood Table ingress owner)) key) refl
+
 packet-goes : (opened : ClusterOpening) (journals end : Journals) (nodes : List Taken) (ingress : ℕ) (key : FlowKey)
     → Grows (journal_of journals (owner_of_group opened (home_of_key opened key))) (journal_of end (owner_of_group opened (home_of_key opened key)))
     → GoesByRecord opened end key (packet_reply opened journals nodes ingress key)
 unfolding packet_reply
 packet-goes opened journals end nodes ingress key grows =
     let owner = owner_of_group opened (home_of_key opened key) in
-    goes opened journals end key (table_turns nodes ingress owner) (λ (node : ℕ). first_changes opened journals key (fib_turns nodes node owner)) grows
-    (routed_after opened (first_changes opened journals key (table_turns nodes ingress owner)) key) refl
+    goes opened journals end key (turns_taken Table nodes ingress owner) (λ (node : ℕ). first_changes opened journals key (turns_taken Fib nodes node owner)) grows
+    (routed_after opened (first_changes opened journals key (turns_taken Table nodes ingress owner)) key) refl
 
 all-go : (script : List Event) (state : ClusterState) → EachPacket state.opened (GoesByRecord state.opened) state.journals script (replies_from state script)
 unfolding replies_from reply_in state_after

@@ -1,9 +1,9 @@
 -- Whatever the script is, its replay is allowed, and nodes have taken prefixes of the owners' turns.
-use Rattle.std.proofs.Common.{◌≡◌, ◌∙◌, ◌<◌, ◌≤◌, ℕ, List, [], ◌∷◌, get_or, replicate, refl, sym, ap, subst, arith, ⊎_elim}
+use Rattle.std.proofs.Common.{◌≡◌, ◌∙◌, ◌<◌, ◌≤◌, ℕ, List, [], ◌∷◌, get_or, replicate, refl, ap, arith, ⊎_elim}
+use Rattle.std.specs.Prelude.{All}
 use Rattle.std.proofs.lemmas.Bool.{cases_lt}
 use Rattle.std.proofs.lemmas.List.{get_or-replicate, get_or_past, length-replicate}
 use Rattle.std.proofs.lemmas.List.Elements.{All-head, All-tail}
-use Rattle.group_history.specs.declared.change.Change.{Change}
 use Rattle.packet_reader.specs.declared.event.Event.{Event}
 use Rattle.packet_reader.specs.declared.event.Event.TheVariants.{Set, Del, Packet, Carry, Sync}
 use Rattle.packet_reader.specs.declared.event.Part.{Part}
@@ -12,24 +12,18 @@ use Rattle.rib_owner.specs.declared.update.Update.{Update}
 use Rattle.rib_owner.specs.declared.update.Update.TheVariants as update
 use Rattle.replay_model.specs.Allowed.{AllowedFrom, Moment, beginning, phase_end}
 use Rattle.replay_model.specs.Carrying.{after_carry, after_sync, turns_taken}
-use Rattle.replay_model.specs.Laws.{AreFormed, CanBeOpened, IsRowOfReplay, NodesTakePrefixes, ReplaysAreAllowed, TakesPrefixes, state_after_all}
+use Rattle.replay_model.specs.Laws.{AreFormed, CanBeOpened, IsRow, IsRowOfReplay, NodesTakePrefixes, ReplaysAreAllowed, TakesPrefixes, state_after_all}
+use Rattle.replay_model.specs.Paths.{cuts_of}
 use Rattle.replay_model.specs.Replaying.{fresh, fresh_node, replayed_with_updates, replies_from, reply_in, state_after}
 use Rattle.replay_model.specs.State.{ClusterOpening, ClusterState, Taken, journal_of, nothing_taken}
 use Rattle.replay_model.specs.Updates.{after_update}
 use Rattle.replay_model.proofs.Cuts.{grown-length, grows-not, grows-on}
-use Rattle.replay_model.proofs.Maps.{AreSoundAlong, FitsMaps, along-none, sound-none}
-use Rattle.replay_model.proofs.Accepting.{phase-grows, update-grows, update-sound}
+use Rattle.replay_model.proofs.Maps.{FitsMaps}
+use Rattle.replay_model.proofs.Accepting.{empty-journal, phase-grows, sound-end, sound-first, update-grows, update-sound}
 use Rattle.replay_model.proofs.Taking.{Rises, WereSent, carry-rises, sync-all, sync-rises, turns_by, turns_in}
-use Rattle.replay_model.proofs.Answering.{Stands, cuts_of, packet-path}
+use Rattle.replay_model.proofs.Answering.{IsInReplay, packet-path}
 
 -- ---- the beginning
-
-empty_journal : (nodes owner : ℕ) → journal_of (replicate nodes []) owner ≡ []
-empty_journal nodes owner =
-    ⊎_elim
-    (λ (within : owner < nodes). get_or-replicate nodes owner [] [] within)
-    (λ (past : nodes ≤ owner). get_or_past (replicate nodes []) owner [] (omega (arith, past, length-replicate {A = List Change} nodes [])))
-    (cases_lt owner nodes)
 
 zero_of : (nodes owner : ℕ) → ◌≡◌ {A = ℕ} (get_or (replicate nodes 0) owner 0) 0
 zero_of nodes owner =
@@ -66,22 +60,20 @@ no_cut opened Table lane node owner = refl
 no_cut opened Fib lane node owner = refl
 
 module _ (opened : ClusterOpening) (can : CanBeOpened opened) where
-  stands_first : Stands opened (beginning opened)
+  stands_first : IsInReplay opened (beginning opened)
   stands_first = record {
     one_each = length-replicate opened.size.nodes (fresh_node opened.size.nodes);
     grown = λ owner. grows-not (journal_of (beginning opened).start owner);
-    sounds = λ owner.
-        subst (AreSoundAlong opened.size opened.flows) (sym (empty_journal opened.size.nodes owner))
-        (along-none opened.size opened.flows (sound-none opened.size opened.flows can.distinct can.handled can.values can.within));
+    sounds = sound-first opened can;
     sent = none_sent opened;
-    late = λ part node owner low. rw (empty_journal opened.size.nodes owner) (omega arith);
+    late = λ part node owner low. rw (empty-journal opened.size.nodes owner) (omega arith);
     cuts = λ part lane node owner. rw (no_cut opened part lane node owner) (omega arith);
   }
 
   -- ---- one event
 
-  module _ (m : Moment) (stands : Stands opened m) where
-    stands_updated : (update : Update) → FitsMaps opened.size.nodes update → Stands opened (record m { now = after_update opened m.now update })
+  module _ (m : Moment) (stands : IsInReplay opened m) where
+    stands_updated : (update : Update) → FitsMaps opened.size.nodes update → IsInReplay opened (record m { now = after_update opened m.now update })
     stands_updated update fits = record {
       one_each = stands.one_each;
       grown = λ owner. grows-on _ _ _ (stands.grown owner) (update-grows opened m.now update owner);
@@ -95,7 +87,7 @@ module _ (opened : ClusterOpening) (can : CanBeOpened opened) where
         cuts_kept Table = stands.cuts Table
         cuts_kept Fib = stands.cuts Fib
 
-    stands_carried : (node owner turn : ℕ) (part : Part) → Stands opened (record m { nodes = after_carry m.now m.nodes node owner turn part })
+    stands_carried : (node owner turn : ℕ) (part : Part) → IsInReplay opened (record m { nodes = after_carry m.now m.nodes node owner turn part })
     stands_carried node owner turn part = record {
       one_each = rises.same_nodes ∙ stands.one_each;
       grown = stands.grown;
@@ -113,7 +105,7 @@ module _ (opened : ClusterOpening) (can : CanBeOpened opened) where
         cuts_kept Table lane at whose = omega (arith, stands.cuts Table lane at whose, rises.kept Table at whose)
         cuts_kept Fib lane at whose = omega (arith, stands.cuts Fib lane at whose, rises.kept Fib at whose)
 
-    stands_synced : Stands opened (record m { start = m.now; nodes = after_sync m.now m.nodes })
+    stands_synced : IsInReplay opened (record m { start = m.now; nodes = after_sync m.now m.nodes })
     stands_synced = record {
       one_each = rises.same_nodes ∙ stands.one_each;
       grown = λ owner. grows-not (journal_of m.now owner);
@@ -137,7 +129,10 @@ module _ (opened : ClusterOpening) (can : CanBeOpened opened) where
   abbrev state_at : Moment → ClusterState
   state_at m = record { opened = opened; journals = m.now; nodes = m.nodes }
 
-  allowed-from : (lanes : ℕ) (script : List Event) (m : Moment) → Stands opened m → AreFormed opened script → AllowedFrom opened lanes m script (replies_from (state_at m) script)
+  are-rows : (script : List Event) → AreFormed opened script → All (IsRow opened) script
+  are-rows script formed = λ i d low. let this = formed i d low in record { in_range = this.formed.in_range; value = this.value }
+
+  allowed-from : (lanes : ℕ) (script : List Event) (m : Moment) → IsInReplay opened m → AreFormed opened script → AllowedFrom opened lanes m script (replies_from (state_at m) script)
   unfolding replies_from reply_in state_after
   allowed-from lanes [] m stands formed = tt
   allowed-from lanes (Set flow ∷ script) m stands formed =
@@ -148,7 +143,9 @@ module _ (opened : ClusterOpening) (can : CanBeOpened opened) where
       (refl, allowed-from lanes script _ (stands_updated m stands (update.Del key) (record { handled = tt; value = this.value })) (All-tail (IsRowOfReplay opened.size) (Del key) script formed))
   allowed-from lanes (Packet ingress key ∷ script) m stands formed =
       let this = All-head (IsRowOfReplay opened.size) (Packet ingress key) script formed in
-      packet-path opened can.shape m stands (phase_end opened m.now script) (phase-grows opened script m.now) key this.value lanes ingress this.formed.in_range
+      let later = All-tail (IsRowOfReplay opened.size) (Packet ingress key) script formed in
+      packet-path opened can.shape m stands (phase_end opened m.now script) (phase-grows opened script m.now) (sound-end opened script m.now (are-rows script later) stands.sounds)
+      key this.value lanes ingress this.formed.in_range
       (λ (next : Moment). AllowedFrom opened lanes next script (replies_from (state_at m) script))
       (λ packets tables fibs then.
       allowed-from lanes script (record m { packets = packets; tables = tables; fibs = fibs }) then (All-tail (IsRowOfReplay opened.size) (Packet ingress key) script formed))

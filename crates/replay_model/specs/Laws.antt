@@ -1,20 +1,24 @@
 -- What holds of every replay.
-use Rattle.std.specs.Prelude.{◌≡◌, ℕ, ◌≤◌, List, [], ◌∷◌, length, replicate, All, None}
+use Rattle.std.specs.Prelude.{◌≡◌, ℕ, ◌<◌, ◌≤◌, ◌%◌, List, [], ◌∷◌, length, replicate, All, None}
+use Rattle.flow_types.specs.declared.key.FlowKey.{FlowKey}
 use Rattle.flow_types.specs.Map.{AreDistinct}
 use Rattle.flow_types.specs.Size.{Size, IsShape}
 use Rattle.group_search.specs.Build.{past_limit}
 use Rattle.group_search.specs.Records.{AreHandled}
 use Rattle.delta_codec.specs.Values.{IsKeyValue}
-use Rattle.packet_reader.specs.Form.{IsFormed}
+use Rattle.packet_reader.specs.Form.{IsFormed, IsInRange}
 use Rattle.packet_reader.specs.declared.event.Event.{Event}
 use Rattle.packet_reader.specs.declared.event.Event.TheVariants.{Set, Del, Packet, Carry, Sync}
 use Rattle.packet_reader.specs.declared.event.Part.{Part}
 use Rattle.packet_reader.specs.declared.mode.Mode.TheVariants.{Replay}
 use Rattle.partial_fib.specs.Answering.{HaveKeyValues}
-use Rattle.replay_model.specs.Allowed.{Allowed}
+use Rattle.replay_model.specs.Allowed.{Allowed, Moment}
 use Rattle.replay_model.specs.Carrying.{turns_taken}
 use Rattle.replay_model.specs.Lanes.{NeverFalls}
+use Rattle.replay_model.specs.Packets.{Stood, reply_by_turns}
+use Rattle.replay_model.specs.Paths.{IsPathByRecord, Stands}
 use Rattle.replay_model.specs.Replaying.{fresh, replayed_with_updates, state_after}
+use Rattle.replay_model.specs.Sound.{AreSoundJournals}
 use Rattle.replay_model.specs.State.{Journals, ClusterOpening, ClusterState, journal_of}
 use Rattle.replay_model.specs.Told.{EachPacket, GoesByRecord, TellsAtOneVersion}
 use Rattle.replay_model.specs.declared.reply.Reply.{Reply}
@@ -35,6 +39,11 @@ HasKeyValue (Packet ingress key) = IsKeyValue key
 HasKeyValue (Carry node owner turn part) = Unit {0}
 HasKeyValue Sync = Unit {0}
 
+-- the nodes that the event names are there, and its key is in range
+pub record IsRow (opened : ClusterOpening) (event : Event) : Type 0 where
+  pub in_range : IsInRange opened.size event
+  pub value : HasKeyValue event
+
 -- the event has the form of a row of a replay, in a cluster of this shape
 pub record IsRowOfReplay (shape : Size) (event : Event) : Type 0 where
   pub formed : IsFormed Replay shape event
@@ -48,6 +57,12 @@ AreFormed opened script = All (IsRowOfReplay opened.size) script
 abbrev pub ReplaysAreAllowed : Type 0
 ReplaysAreAllowed = (opened : ClusterOpening) (script : List Event) (lanes : ℕ) → CanBeOpened opened → AreFormed opened script
     → Allowed opened lanes script (replayed_with_updates opened script)
+
+-- at whatever version between the two ends of its phase a packet is answered, its reply is a path, and goes by the canonical record
+abbrev pub EachVersionIsAPath : Type 0
+EachVersionIsAPath = (opened : ClusterOpening) (lanes : ℕ) (ends : Journals) (m : Moment) (stood : (lane : ℕ) → Stood) (ingress : ℕ) (key : FlowKey)
+    → IsShape opened.size.nodes opened.size.blocks → AreSoundJournals opened ends → Stands opened ends m stood → ingress < opened.size.nodes → IsKeyValue key
+    → IsPathByRecord opened lanes m ends ingress key (reply_by_turns opened ends (stood (m.packets % lanes)) ingress key)
 
 -- the cluster after these events
 unfoldable pub state_after_all : ClusterState → List Event → ClusterState

@@ -1,9 +1,11 @@
 pub mod State
 pub mod Updates
-pub mod Packets
 pub mod Carrying
+pub mod Packets
 pub mod Replaying
 pub mod Allowed
+pub mod Sound
 pub mod Told
+pub mod Paths
 pub mod Lanes
 pub mod Laws

@@ -6,12 +6,15 @@ use Rattle.flow_types.specs.Map.{flow_at}
 use Rattle.group_search.specs.Records.{content_of}
 use Rattle.group_history.specs.declared.change.Change.{Change}
 use Rattle.group_history.specs.Journal.{change_count}
+use Rattle.packet_reader.specs.declared.event.Part.{Part}
+use Rattle.packet_reader.specs.declared.event.Part.TheVariants.{Table, Fib}
 use Rattle.rib_owner.specs.Rib.{map_now}
 use Rattle.replica_shard.specs.Routed.{decoded}
 use Rattle.partial_fib.specs.Fib.{handled_record}
 use Rattle.replay_model.specs.declared.reply.Reply.{Reply}
 use Rattle.replay_model.specs.declared.reply.Reply.TheVariants.{Found, Unknown, Nowhere}
-use Rattle.replay_model.specs.State.{Journals, ClusterOpening, Taken, fib_turns, home_of_key, journal_of, owner_of_group, table_turns}
+use Rattle.replay_model.specs.Carrying.{turns_taken}
+use Rattle.replay_model.specs.State.{Journals, ClusterOpening, Taken, home_of_key, journal_of, owner_of_group}
 
 -- the node that the canonical record of the key's group gives it, after these changes of the group's owner
 unfoldable pub routed_after : ClusterOpening → List Change → FlowKey → Option ℕ
@@ -40,9 +43,18 @@ reply_sent opened there here key None = Nowhere (version_after opened there key)
 reply_sent opened there here key (Some node) =
     answer_of node (version_after opened there key) (version_after opened (here node) key) (fib_record_after opened (here node) node key)
 
--- the reply to a packet: the ingress's table sends it by the turns that it has taken, and the node's FIB answers by its own
-unfoldable pub packet_reply : ClusterOpening → Journals → List Taken → (ingress : ℕ) → FlowKey → Reply
-packet_reply opened journals nodes ingress key =
+-- how many turns of an owner the part of a node has, or has been seen to have
+abbrev pub Stood : Type 0
+Stood = (part : Part) (node owner : ℕ) → ℕ
+
+-- the reply to a packet by so many turns: the ingress's table sends it by the first turns of its key's owner, as many as stand
+-- there, and the node's FIB answers by as many as stand in it
+abbrev pub reply_by_turns : ClusterOpening → Journals → Stood → (ingress : ℕ) → FlowKey → Reply
+reply_by_turns opened journals stood ingress key =
     let owner = owner_of_group opened (home_of_key opened key) in
-    let there = first_changes opened journals key (table_turns nodes ingress owner) in
-    reply_sent opened there (λ (node : ℕ). first_changes opened journals key (fib_turns nodes node owner)) key (routed_after opened there key)
+    let there = first_changes opened journals key (stood Table ingress owner) in
+    reply_sent opened there (λ (node : ℕ). first_changes opened journals key (stood Fib node owner)) key (routed_after opened there key)
+
+-- the reply to a packet in a replay, by the turns that tables and FIBs have taken
+unfoldable pub packet_reply : ClusterOpening → Journals → List Taken → (ingress : ℕ) → FlowKey → Reply
+packet_reply opened journals nodes ingress key = reply_by_turns opened journals (λ (part : Part) (node owner : ℕ). turns_taken part nodes node owner) ingress key

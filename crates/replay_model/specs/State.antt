@@ -1,5 +1,5 @@
 -- What a contract sees of a cluster in a run.
-use Rattle.std.specs.Prelude.{ℕ, ◌%◌, List, [], slice_index, slice_index_or}
+use Rattle.std.specs.Prelude.{◌≡◌, ℕ, ◌%◌, List, [], ◌++◌, min, slice_index, slice_index_or}
 use Rattle.flow_types.specs.declared.key.FlowKey.{FlowKey}
 use Rattle.flow_types.specs.declared.record.Flow.{Flow}
 use Rattle.flow_types.specs.Size.{Size}
@@ -34,9 +34,18 @@ home_of_key opened key = home opened.size.blocks opened.flows key
 abbrev pub owner_of_group : ClusterOpening → Home → ℕ
 owner_of_group opened at = at.block % opened.size.nodes
 
+-- how many owners have a block
+abbrev pub owners_in : Size → ℕ
+owners_in size = min size.nodes size.blocks
+
 -- what an owner has accepted
 abbrev pub journal_of : Journals → (owner : ℕ) → List Change
 journal_of journals owner = slice_index_or journals owner []
+
+-- the one journal is the other with changes added at its end
+pub record Grows (before after : List Change) : Type 0 where
+  pub more : List Change
+  pub is : after ≡ before ++ more
 
 abbrev pub nothing_taken : Taken
 nothing_taken = record { tables = []; fibs = [] }

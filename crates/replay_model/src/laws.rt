@@ -1,11 +1,18 @@
 //! What holds of every replay. Each law is a function that does nothing, whose contract says it.
 
-ghost use Rattle.replay_model.specs.Laws.{NoLaneGoesBack, NodesTakePrefixes, OneVersionTells, ReplaysAreAllowed, ReplaysGoByRecords};
+ghost use Rattle.replay_model.specs.Laws.{EachVersionIsAPath, NoLaneGoesBack, NodesTakePrefixes, OneVersionTells, ReplaysAreAllowed, ReplaysGoByRecords};
 
 /// The replies of a replay are allowed by the model: each packet goes by one version of its phase, and no lane goes back.
 #[tactic(auto, using(crate::proofs::Replays::replays_are_allowed))]
 pub fn replays_are_allowed()
     ensures { ReplaysAreAllowed }
+{}
+
+/// At whatever version between the two ends of its phase a packet is answered, if it is no older than what its lane had seen:
+/// the reply is a path, and goes where the canonical record of its key's group sends it. A replay's packet is answered by what
+/// nodes have taken, a storm's by what the readers of its lane have seen.
+pub fn each_version_is_a_path()
+    ensures { EachVersionIsAPath }
 {}
 
 /// What a node's table and its own records have taken of an owner's turns is a prefix of them, in whatever order and however

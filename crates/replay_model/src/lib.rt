@@ -2,8 +2,9 @@
 //!
 //! `specs/State.antt` says what a cluster is in a run, `Updates`, `Packets` and `Carrying` what an event makes of it and how
 //! it is answered, and `Replaying` what a whole script is answered on one thread. `specs/Allowed.antt` says which replies the
-//! model allows, on one thread or on many; `specs/Laws.antt` what holds of all of them.
-//! Proved: each replay's replies are allowed, with one lane or any other number; where replies are allowed, no lane goes
+//! model allows, on one thread or on many; `Sound` and `Paths` what makes a reply a path; `specs/Laws.antt` what holds of all.
+//! Proved: each replay's replies are allowed, with one lane or any other number; a packet's reply at any version between the two
+//! ends of its phase is a path, by the canonical record; where replies are allowed, no lane goes
 //! back, and where ingress and node stand at one version a known flow is found at its handler and only an absent key is
 //! unknown; each packet of a replay goes where the canonical record of its key's group sends it; nodes have taken prefixes of
 //! the owners' turns, in whatever order and however often messages are carried. There is no code here but the reply's type.
@@ -13,7 +14,7 @@ mod laws;
 mod reply;
 
 pub use laws::{
-    no_lane_goes_back, nodes_take_prefixes, one_version_tells, replays_are_allowed,
-    replays_go_by_records,
+    each_version_is_a_path, no_lane_goes_back, nodes_take_prefixes, one_version_tells,
+    replays_are_allowed, replays_go_by_records,
 };
 pub use reply::Reply;
