@@ -1,6 +1,6 @@
 -- What an accepted update leaves of a sender, whose shape and number are those of its owner.
 use Rattle.std.proofs.Common.{◌≡◌, ◌∙◌, ◌<◌, ℕ, List, [], ◌∷◌, ◌++◌, Ok, Err, sym, ap, subst}
-use Rattle.std.specs.Prelude.{IfSome}
+use Rattle.std.specs.Prelude.{IfSome, Result}
 use Rattle.flow_types.specs.declared.record.Flow.{Flow}
 use Rattle.flow_types.specs.Size.{Size}
 use Rattle.group_search.specs.Owned.{IsOwned}
@@ -25,6 +25,20 @@ renamed : (size other : Size) (number num : ℕ) (flows : List Flow) (sender : S
     → IsSenderOf other num flows sender
 renamed size other number num flows sender sizes numbers is =
     subst (λ (n : ℕ). IsSenderOf other n flows sender) numbers (subst (λ (s : Size). IsSenderOf s number flows sender) sizes is)
+
+-- it stands with the shape and the number that are seen of it
+pub as_seen : (size : Size) (number : ℕ) (flows : List Flow) (sender : SenderState) → IsSenderOf size number flows sender
+    → IsSenderOf sender.rib.size sender.rib.number flows sender
+as_seen size number flows sender is = renamed size sender.rib.size number sender.rib.number flows sender (sym is.sized) (sym is.numbered) is
+
+-- what is said with the shape and the number that were seen is said with those that are known
+module _ (size : Size) (number : ℕ) (flows : List Flow) (old new : SenderState) (is : IsSenderOf size number flows old) where
+  pub stands_known : IsSenderOf old.rib.size old.rib.number flows new → IsSenderOf size number flows new
+  stands_known stands = renamed old.rib.size size old.rib.number number flows new is.sized is.numbered stands
+
+  pub answers_known : (update : Update) (answer : Result ℕ UpdateRefused) → AnswersSender old.rib.size flows (changes_in old) update (changes_in new) answer
+      → AnswersSender size flows (changes_in old) update (changes_in new) answer
+  answers_known update answer answers = subst (λ (s : Size). AnswersSender s flows (changes_in old) update (changes_in new) answer) is.sized answers
 
 -- a sender stands with its owner's shape and number alone
 module _ (shape : Size) (num : ℕ) (others : List Flow) (old : SenderState) (stands : IsSenderOf shape num others old) (size : Size) (number : ℕ) (flows : List Flow)

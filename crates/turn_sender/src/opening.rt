@@ -36,15 +36,20 @@ impl Sender {
     {
         read_shape(shape);
         read_keys(flows);
-        Ok(Sender {
+        let sender = Sender {
             shape,
             number,
             owner: Owner::open(alloc, shape, number, flows, images)?,
             octets: Vec::new(alloc),
             turns: Vec::new(alloc),
-        })
+        };
+        may_cross(&sender);
+        Ok(sender)
     }
 }
+
+/// It may go to another thread, with all that it has.
+fn may_cross<T: Send>(_sender: &T) {}
 
 /// Reads the shape, whose numbers are thereby known to be within their limits.
 fn read_shape(shape: Shape)

@@ -13,7 +13,7 @@ use crate::octets::{fib_at, table_at};
 use crate::sending::{MOST_OCTETS, put_turn};
 use crate::sent::SentTurn;
 use delta_codec::{FibMessage, TableMessage};
-use flow_types::Shape;
+use flow_types::{Flow, Shape};
 use rib_owner::{Owner, Update, UpdateRefused};
 use std::marker::Model;
 
@@ -41,16 +41,18 @@ impl Sender {
     /// Accepts an update of a key that the owner owns, and keeps its messages, or refuses it as `Owner::accept` does. It
     /// tells the turn's number.
     ///
-    /// The node of a key that is set is one of the cluster's. The memory for the messages is asked for first, so that want of
-    /// memory may come before another cause, and all memory before anything changes.
-    pub fn accept(&mut self, update: Update) -> Result<u32, UpdateRefused>
+    /// The flows are those with which the owner was opened, and are there for the clauses alone. The node of a key that is set
+    /// is one of the cluster's. The memory for the messages is asked for first, so that want of memory may come before another
+    /// cause, and all memory before anything changes.
+    pub fn accept(&mut self, flows: &[Flow], update: Update) -> Result<u32, UpdateRefused>
+        requires stands { IsSenderOf self.old.rib.size self.old.rib.number flows.now self.old }
         requires owns { IsOwned self.old.rib.size self.old.rib.number (updated_key update) }
         requires node { IfSome (node_entered update) (λ node. node < self.old.rib.size.nodes) }
-        ensures answer { (size : Size) (number : ℕ) (flows : List Flow) → IsSenderOf size number flows self.old →
-            AnswersSender size flows (changes_in self.old) update (changes_in self.new) result }
-        ensures stands { (size : Size) (number : ℕ) (flows : List Flow) → IsSenderOf size number flows self.old → IsSenderOf size number flows self.new }
+        ensures answer { AnswersSender self.old.rib.size flows.now (changes_in self.old) update (changes_in self.new) result }
+        ensures stands { IsSenderOf self.old.rib.size self.old.rib.number flows.now self.new }
         ensures refused { OnErr result (self.new ≡ self.old) }
     {
+        let _ = flows;
         self.octets.reserve(MOST_OCTETS)?;
         self.turns.reserve(1)?;
         let turn = self.owner.accept(update)?;

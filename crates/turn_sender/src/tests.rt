@@ -1,3 +1,6 @@
+ghost use Rattle.std.specs.Prelude.{[], IfOk};
+ghost use Rattle.turn_sender.specs.Sender.{IsSenderOf};
+
 use crate::Sender;
 use delta_codec::{FibMessage, FibOp, TableMessage};
 use flow_types::{Flow, FlowKey, Record, Shape};
@@ -43,7 +46,10 @@ fn shape() -> Result<Shape, Fail> {
 }
 
 /// The sender of the one block of four nodes, without flows.
-fn opened(rt: &(impl Threads + Sync), alloc: Global) -> Result<Sender, Fail> {
+#[tactic(auto, using(crate::proofs::Accepting::as_seen))]
+fn opened(rt: &(impl Threads + Sync), alloc: Global) -> Result<Sender, Fail>
+    ensures { IfOk result (λ sender. IsSenderOf sender.rib.size sender.rib.number [] sender) }
+{
     let four_nodes = shape()?;
     let images = build(rt, alloc, four_nodes, &[], 1)?;
     Ok(Sender::open(alloc, four_nodes, 0, &[], images.as_slice())?)
@@ -57,16 +63,23 @@ fn set(node: u8) -> Update {
     })
 }
 
-fn asked(rt: &impl Abort, sender: &mut Sender, update: Update) -> Result<u32, UpdateRefused> {
+#[tactic(auto, using(crate::proofs::Accepting::as_seen))]
+fn asked(rt: &impl Abort, sender: &mut Sender, update: Update) -> Result<u32, UpdateRefused>
+    requires { IsSenderOf sender.old.rib.size sender.old.rib.number [] sender.old }
+    ensures { IsSenderOf sender.new.rib.size sender.new.rib.number [] sender.new }
+{
     assert!(rt; sender.owner.owns(update.key()));
     if let Update::Set(flow) = update {
         assert!(rt; u16::from(flow.node) < sender.shape.nodes());
     }
-    sender.accept(update)
+    sender.accept(&[], update)
 }
 
 /// The key goes to node 1, moves to node 2, and is removed.
-fn moved(rt: &impl Abort, sender: &mut Sender) -> Result<(), Fail> {
+fn moved(rt: &impl Abort, sender: &mut Sender) -> Result<(), Fail>
+    requires { IsSenderOf sender.old.rib.size sender.old.rib.number [] sender.old }
+    ensures { IfOk result (λ _. IsSenderOf sender.new.rib.size sender.new.rib.number [] sender.new) }
+{
     assert_eq!(rt; asked(rt, sender, set(1)), Ok(1));
     assert_eq!(rt; asked(rt, sender, set(2)), Ok(2));
     assert_eq!(rt; asked(rt, sender, Update::Del(KEY)), Ok(3));

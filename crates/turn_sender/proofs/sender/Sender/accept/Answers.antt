@@ -13,12 +13,14 @@ use Rattle.turn_sender.proofs.Accepting.{accepted_content, accepted_head, accept
 use Rattle.turn_sender.proofs.sender.Sender.accept.Goals as goal
 
 pub returns-in_err-turn-clause-answer : goal.returns-in_err-turn-clause-answer
-returns-in_err-turn-clause-answer c size number flows is =
+returns-in_err-turn-clause-answer c =
     let state : SenderState = record { rib = c.self.inside.owner; octets = c.self.inside.octets.items; sent = c.self.inside.turns.items } in
-    let is_state : IsSenderOf size number flows state = subst (IsSenderOf size number flows) (sym c.self.view_is) is in
+    let flows = c.args.flows.now in
+    let is_state : IsSenderOf state.rib.size state.rib.number flows state =
+    subst (λ (s : SenderState). IsSenderOf s.rib.size s.rib.number flows s) (sym c.self.view_is) c.requires.stands in
     rw (err_is c.from_residual-in_err-turn.result c.in_err-turn.field-0.0 c.from_residual-in_err-turn.ensures.1)
-    (subst (λ (s : SenderState). AnswersSender size flows (changes_in s) c.args.update c.accept.new.self.journal.changes (Err c.in_err-turn.field-0.0)) c.self.view_is
-    (refuses size number flows state is_state c.args.update c.in_err-turn.field-0.0 (c.in_err-turn.ensures.answer flows (rib_here size number flows state is_state))
+    (subst (λ (s : SenderState). AnswersSender s.rib.size flows (changes_in s) c.args.update c.accept.new.self.journal.changes (Err c.in_err-turn.field-0.0)) c.self.view_is
+    (refuses state.rib.size state.rib.number flows state is_state c.args.update c.in_err-turn.field-0.0 (c.in_err-turn.ensures.answer flows (rib_here state.rib.size state.rib.number flows state is_state))
     c.accept.new.self.journal.changes))
 
 pub put_turn-sent-requires-clause-head : goal.put_turn-sent-requires-clause-head
@@ -82,24 +84,28 @@ invariant_of-self-2 c =
     }
 
 pub returns-clause-answer : goal.returns-clause-answer
-returns-clause-answer c size number flows is =
+returns-clause-answer c =
     let state : SenderState = record { rib = c.self.inside.owner; octets = c.self.inside.octets.items; sent = c.self.inside.turns.items } in
-    let is_state : IsSenderOf size number flows state = subst (IsSenderOf size number flows) (sym c.self.view_is) is in
-    subst (λ (s : SenderState). AnswersSender size flows (changes_in s) c.args.update c.accept.new.self.journal.changes (Ok c.in_ok-turn.turn.number)) c.self.view_is
-    (answers size number flows state is_state c.args.update c.in_ok-turn.turn (c.in_ok-turn.ensures.answer flows (rib_here size number flows state is_state))
+    let flows = c.args.flows.now in
+    let is_state : IsSenderOf state.rib.size state.rib.number flows state =
+    subst (λ (s : SenderState). IsSenderOf s.rib.size s.rib.number flows s) (sym c.self.view_is) c.requires.stands in
+    subst (λ (s : SenderState). AnswersSender s.rib.size flows (changes_in s) c.args.update c.accept.new.self.journal.changes (Ok c.in_ok-turn.turn.number)) c.self.view_is
+    (answers state.rib.size state.rib.number flows state is_state c.args.update c.in_ok-turn.turn (c.in_ok-turn.ensures.answer flows (rib_here state.rib.size state.rib.number flows state is_state))
     c.accept.new.self.journal.changes c.in_ok-turn.ensures.journal)
 
 pub returns-clause-stands : goal.returns-clause-stands
-returns-clause-stands c size number flows is =
+returns-clause-stands c =
     let state : SenderState = record { rib = c.self.inside.owner; octets = c.self.inside.octets.items; sent = c.self.inside.turns.items } in
     let owns : IsOwned c.self.inside.owner.size c.self.inside.owner.number (updated_key c.args.update) =
     subst (λ (s : SenderState). IsOwned s.rib.size s.rib.number (updated_key c.args.update)) (sym c.self.view_is) c.requires.owns in
     let node : IfSome (node_entered c.args.update) (λ (n : ℕ). n < c.self.inside.owner.size.nodes) =
     subst (λ (s : SenderState). IfSome (node_entered c.args.update) (λ (n : ℕ). n < s.rib.size.nodes)) (sym c.self.view_is) c.requires.node in
     let key : IsKeyValue c.in_ok-turn.turn.change.key = search rules in
-    let is_state : IsSenderOf size number flows state = subst (IsSenderOf size number flows) (sym c.self.view_is) is in
+    let flows = c.args.flows.now in
+    let is_state : IsSenderOf state.rib.size state.rib.number flows state =
+    subst (λ (s : SenderState). IsSenderOf s.rib.size s.rib.number flows s) (sym c.self.view_is) c.requires.stands in
     let is_here : IsSenderOf c.self.inside.shape c.self.inside.number flows state =
-    stands_here c.self.inside.shape c.self.inside.number c.self.invariant.flows state c.self.invariant.stands size number flows is_state in
+    stands_here c.self.inside.shape c.self.inside.number c.self.invariant.flows state c.self.invariant.stands state.rib.size state.rib.number flows is_state in
     let answer : AnswersUpdate c.self.inside.owner.size flows c.self.inside.owner.journal.changes c.args.update (Ok c.in_ok-turn.turn) =
     c.in_ok-turn.ensures.answer flows (rib_here c.self.inside.shape c.self.inside.number flows state is_here) in
     let new : SenderState = record { rib = c.accept.new.self; octets = c.put_turn-sent.new.octets.items; sent = c.push.new.self.items } in
@@ -108,8 +114,9 @@ returns-clause-stands c size number flows is =
     c.push.ensures.items ∙ cond-true _ _ _ pushed ∙ ap (λ (ts : List SentTurn). ts ++ c.put_turn-sent.result ∷ []) c.reserve-2.ensures.items in
     let more : AreAppended c.self.inside.octets.items c.put_turn-sent.new.octets.items =
     subst (λ (o : List ℕ). AreAppended o c.put_turn-sent.new.octets.items) c.reserve.ensures.items c.put_turn-sent.ensures.appended in
-    stands_there c.self.inside.shape c.self.inside.number c.self.invariant.flows state c.self.invariant.stands size number flows is_state new
+    subst (λ (s : SenderState). IsSenderOf s.rib.size s.rib.number flows new) c.self.view_is
+    (stands_there c.self.inside.shape c.self.inside.number c.self.invariant.flows state c.self.invariant.stands state.rib.size state.rib.number flows is_state new
     (accepted_stands c.self.inside.shape c.self.inside.number flows state is_here c.args.update c.in_ok-turn.turn answer owns node key
     c.put_turn-sent.new.octets.items c.put_turn-sent.result c.put_turn-sent.ensures.table c.put_turn-sent.ensures.fib new refl more sent_are
     (c.in_ok-turn.ensures.stands flows (rib_here c.self.inside.shape c.self.inside.number flows state is_here)) c.in_ok-turn.ensures.size c.in_ok-turn.ensures.number
-    c.in_ok-turn.ensures.journal)
+    c.in_ok-turn.ensures.journal))

@@ -1,8 +1,8 @@
 use Rattle.turn_sender.proofs.Growing.{opened}
 use Rattle.turn_sender.proofs.sender.Sender.open.Goals as goal
 
-pub invariant_of-result : goal.invariant_of-result
-invariant_of-result c = record {
+pub invariant_of-sender : goal.invariant_of-sender
+invariant_of-sender c = record {
   flows = c.args.flows.now;
   stands = opened c.args.shape c.args.number c.args.flows.now c.in_ok-open.field-0 c.new.result.items c.new-2.result.items c.read_shape.ensures c.requires.node
       (record { distinct = c.requires.distinct; handled = c.requires.handled; keyed = c.read_keys.ensures })
