@@ -13,10 +13,10 @@ use Rattle.delta_codec.specs.declared.message.TableMessage.{TableMessage}
 use Rattle.packet_reader.specs.declared.event.Part.{Part}
 use Rattle.packet_reader.specs.declared.event.Part.TheVariants.{Fib, Table}
 use Rattle.replay_model.specs.Carrying.{after_carry, carry_reply, nodes_by, turns_taken, with_taken}
-use Rattle.replay_model.specs.State.{Journals, Taken, journal_of, nothing_taken, taken_by}
+use Rattle.replay_model.specs.State.{Journals, Taken, journal_of, nothing_taken, owners_in, taken_by}
 use Rattle.replay_model.specs.declared.reply.Reply.{Reply}
 use Rattle.replay_model.specs.declared.reply.Reply.TheVariants.{Applied, EarlyHave, RepeatHave}
-use Rattle.cluster_replay.specs.Cluster.{IsCluster, IsFibOf, IsNodeOf, IsTableOf, NodeState, after_fib, after_table, fib_in, journal_in, journals_in, no_node, no_sender, owners_in, shard_in, taken_in, taking_reply}
+use Rattle.cluster_replay.specs.Cluster.{IsCluster, IsFibOf, IsNodeOf, IsTableOf, NodeState, after_fib, after_table, fib_in, journal_in, journals_in, no_node, no_sender, shard_in, taken_in, taking_reply}
 use Rattle.turn_sender.specs.Sender.{IsSenderOf, SenderState}
 use Rattle.turn_sender.specs.Sent.{IsFibMessageOf}
 use Rattle.replica_shard.specs.Message.{IsTableMessageOf}
@@ -24,7 +24,7 @@ use Rattle.replica_shard.specs.Shard.{ShardState, with_content}
 use Rattle.partial_fib.specs.Fib.{with_turn}
 use Rattle.cluster_replay.proofs.NodeFacts.{each_set, set_fib, set_fib_taken, set_table, set_table_taken}
 use Rattle.cluster_replay.proofs.Turns.{fib_goes_on, fib_turn, table_goes_on, table_turn}
-use Rattle.cluster_replay.proofs.Numbered.{at_number}
+use Rattle.cluster_open.proofs.Numbered.{at_number}
 
 -- ---- the reply
 

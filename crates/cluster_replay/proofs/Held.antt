@@ -12,8 +12,8 @@ use Rattle.delta_codec.specs.declared.message.TableMessage.{TableMessage}
 use Rattle.packet_reader.specs.declared.event.Part.{Part}
 use Rattle.replay_model.specs.Carrying.{after_carry, carry_reply, nodes_by, turns_taken}
 use Rattle.replay_model.specs.declared.reply.Reply.{Reply}
-use Rattle.replay_model.specs.State.{Taken, journal_of}
-use Rattle.cluster_replay.specs.Cluster.{IsCluster, IsFibOf, IsTableOf, NodeState, NodeStore, RunState, after_fib, after_table, cluster_of, fib_in, journal_in, journals_in, no_node, no_sender, node_state_of, owners_in, shard_in, taken_in, taking_reply, with_nodes}
+use Rattle.replay_model.specs.State.{Taken, journal_of, owners_in}
+use Rattle.cluster_replay.specs.Cluster.{IsCluster, IsFibOf, IsTableOf, NodeState, NodeStore, RunState, after_fib, after_table, cluster_of, fib_in, journal_in, journals_in, no_node, no_sender, node_state_of, shard_in, taken_in, taking_reply, with_nodes}
 use Rattle.turn_sender.specs.Sender.{IsSenderOf, SenderState, changes_in}
 use Rattle.turn_sender.specs.Sent.{IsFibMessageOf}
 use Rattle.replica_shard.specs.Message.{IsTableMessageOf, TableMessageFits}

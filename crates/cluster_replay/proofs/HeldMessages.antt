@@ -6,9 +6,9 @@ use Rattle.flow_types.specs.Size.{Size}
 use Rattle.group_history.specs.declared.change.Change.{Change}
 use Rattle.delta_codec.specs.declared.message.TableMessage.{TableMessage}
 use Rattle.replica_shard.specs.Message.{IsTableMessageOf, TableMessageFits}
-use Rattle.replay_model.specs.State.{journal_of}
+use Rattle.replay_model.specs.State.{journal_of, owners_in}
 use Rattle.turn_sender.specs.Sender.{IsSenderOf, SenderState, changes_in}
-use Rattle.cluster_replay.specs.Cluster.{IsCluster, NodeStore, RunState, cluster_of, journal_in, journals_in, no_sender, node_state_of, owners_in}
+use Rattle.cluster_replay.specs.Cluster.{IsCluster, NodeStore, RunState, cluster_of, journal_in, journals_in, no_sender, node_state_of}
 use Rattle.cluster_replay.specs.Turn.{IsTurnsTableMessage}
 use Rattle.cluster_replay.proofs.Carried.{journal_is, owner_low}
 use Rattle.cluster_replay.proofs.Held.{changes_here, held, owner_there, sender_stands, sent_here, turn_there}

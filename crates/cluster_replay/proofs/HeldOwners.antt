@@ -8,12 +8,15 @@ use Rattle.flow_types.specs.Size.{Size}
 use Rattle.rib_owner.specs.declared.refused.UpdateRefused.{UpdateRefused}
 use Rattle.rib_owner.specs.declared.refused.UpdateRefused.TheVariants.{Spent, Absent, BlockFull, RowsFull, OutOfMemory}
 use Rattle.rib_owner.specs.declared.update.Update.{Update}
+use Rattle.rib_owner.specs.Acceptance.{updated_key}
 use Rattle.rib_owner.specs.Turn.{node_entered}
-use Rattle.replay_model.specs.State.{Journals}
+use Rattle.group_search.specs.Owned.{IsOwned}
+use Rattle.turn_sender.proofs.Accepting.{answers_known, as_seen, stands_known}
+use Rattle.replay_model.specs.State.{Journals, owners_in}
 use Rattle.replay_model.specs.Updates.{after_update, update_reply}
 use Rattle.replay_model.specs.declared.reply.Reply.{Reply}
 use Rattle.turn_sender.specs.Sender.{AnswersSender, IsSenderOf, SenderState, changes_in}
-use Rattle.cluster_replay.specs.Cluster.{IsCluster, NodeStore, RunState, cluster_of, journals_in, no_sender, node_state_of, owners_in, told_of, with_journals}
+use Rattle.cluster_replay.specs.Cluster.{IsCluster, NodeStore, RunState, cluster_of, journals_in, no_sender, node_state_of, told_of, with_journals}
 use Rattle.cluster_replay.proofs.Held.{held}
 use Rattle.cluster_replay.proofs.Owners.{Updated, owner_has, owner_is, updated}
 
@@ -33,6 +36,13 @@ module _ (size : Size) (flows : List Flow) (owners : List SenderState) (stores :
     pub sender_owns : IsSenderOf size owner flows sender
     sender_owns = subst (IsSenderOf size owner flows) (sym sender_there) (is.senders owner owner_owns)
 
+    -- as it is asked to accept the update, with the cluster's flows
+    pub stands_seen : (given : List Flow) → given ≡ flows → IsSenderOf sender.rib.size sender.rib.number given sender
+    stands_seen given same = subst (λ (fs : List Flow). IsSenderOf sender.rib.size sender.rib.number fs sender) (sym same) (as_seen size owner flows sender sender_owns)
+
+    pub owns_seen : IsOwned size owner (updated_key update) → IsOwned sender.rib.size sender.rib.number (updated_key update)
+    owns_seen owns = rw (sender_owns.sized, sender_owns.numbered) owns
+
     -- the cluster with the owner as it is now
     abbrev pub with_owner : SenderState → RunState
     with_owner new = record { cluster = cluster_of size flows (set owners owner new) (map node_state_of stores); lacks_memory = lacks }
@@ -51,9 +61,17 @@ module _ (size : Size) (flows : List Flow) (owners : List SenderState) (stores :
     lacked (Err (RowsFull block needed free)) e = cc
     lacked (Err OutOfMemory) e = refl
 
-    module _ (new : SenderState) (new_is : IsSenderOf size owner flows new) (answer : Result ℕ UpdateRefused)
-        (answers : AnswersSender size flows (changes_in sender) update (changes_in new) answer) (kept : OnErr answer (new ≡ sender))
-        (node : IfSome (node_entered update) (λ node. node < size.nodes)) where
+    module _ (given : List Flow) (same_flows : given ≡ flows) (new : SenderState) (new_seen : IsSenderOf sender.rib.size sender.rib.number given new)
+        (answer : Result ℕ UpdateRefused) (answers_seen : AnswersSender sender.rib.size given (changes_in sender) update (changes_in new) answer)
+        (kept : OnErr answer (new ≡ sender)) (node : IfSome (node_entered update) (λ node. node < size.nodes)) where
+      new_is : IsSenderOf size owner flows new
+      new_is = stands_known size owner flows sender new sender_owns (subst (λ (fs : List Flow). IsSenderOf sender.rib.size sender.rib.number fs new) same_flows new_seen)
+
+      answers : AnswersSender size flows (changes_in sender) update (changes_in new) answer
+      answers =
+          answers_known size owner flows sender new sender_owns update answer
+          (subst (λ (fs : List Flow). AnswersSender sender.rib.size fs (changes_in sender) update (changes_in new) answer) same_flows answers_seen)
+
       -- at the owner that the code has found
       there : sender ≡ get_or owners (owner_is size flows owners (map node_state_of stores) is update) no_sender
       there = sender_there ∙ ap (λ (o : ℕ). get_or owners o no_sender) owner_said

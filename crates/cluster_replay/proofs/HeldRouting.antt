@@ -18,7 +18,8 @@ use Rattle.partial_fib.specs.Store.{FibStore, state_of}
 use Rattle.replay_model.specs.Packets.{answer_of, packet_reply}
 use Rattle.replay_model.specs.declared.reply.Reply.TheVariants.{Nowhere}
 use Rattle.turn_sender.specs.Sender.{SenderState}
-use Rattle.cluster_replay.specs.Cluster.{IsCluster, IsFibOf, IsTableOf, NodeState, NodeStore, RunState, cluster_of, fib_in, journal_in, no_node, node_state_of, owners_in, shard_in}
+use Rattle.replay_model.specs.State.{owners_in}
+use Rattle.cluster_replay.specs.Cluster.{IsCluster, IsFibOf, IsTableOf, NodeState, NodeStore, RunState, cluster_of, fib_in, journal_in, no_node, node_state_of, shard_in}
 use Rattle.cluster_replay.proofs.Answered.{fib_here}
 use Rattle.cluster_replay.proofs.Held.{held, node_here, node_there}
 use Rattle.cluster_replay.proofs.Routing.{answered, block_low, fib_is, goes_nowhere, home_there, node_low, owner_has, table_is}

@@ -1,8 +1,4 @@
-pub mod KeyRanges
-pub mod FirstBadFacts
 pub mod RunFacts
-pub mod ReadFacts
-pub mod Numbered
 pub mod NodeFacts
 pub mod Turns
 pub mod Carried
@@ -17,4 +13,3 @@ pub mod BroughtUp
 pub mod Replied
 pub mod Sized
 pub mod Opened
-pub mod Dealt

@@ -8,10 +8,11 @@ use Rattle.group_history.specs.declared.change.Change.{Change}
 use Rattle.packet_reader.specs.declared.event.Part.TheVariants.{Fib, Table}
 use Rattle.partial_fib.specs.Fib.{FibState}
 use Rattle.replay_model.specs.Carrying.{with_taken}
-use Rattle.replay_model.specs.State.{Taken}
+use Rattle.replay_model.specs.State.{Taken, owners_in}
 use Rattle.replica_shard.specs.Shard.{ShardState}
-use Rattle.cluster_replay.specs.Cluster.{IsFibOf, IsNodeOf, IsTableOf, NodeState, by_number, fib_in, no_fib, no_shard, owners_in, shard_in, taken_in}
-use Rattle.cluster_replay.proofs.Numbered.{set_number}
+use Rattle.cluster_open.specs.Opened.{by_number}
+use Rattle.cluster_replay.specs.Cluster.{IsFibOf, IsNodeOf, IsTableOf, NodeState, fib_in, no_fib, no_shard, shard_in, taken_in}
+use Rattle.cluster_open.proofs.Numbered.{set_number}
 
 -- ---- how many turns it has taken
 

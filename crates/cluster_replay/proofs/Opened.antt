@@ -1,8 +1,8 @@
 -- What stands in a cluster before its first event.
-use Rattle.std.proofs.Common.{◌≡◌, ◌∙◌, ◌+◌, ◌<◌, [], ◌∷◌, ◌++◌, ℕ, List, inl, inr, length, map, get_or, replicate, refl, sym, ap, subst, arith}
+use Rattle.std.proofs.Common.{◌≡◌, ◌∙◌, ◌<◌, [], ℕ, List, inl, inr, length, map, get_or, replicate, refl, sym, ap, subst, arith}
 use Rattle.std.proofs.lemmas.Bool.{cases_lt}
-use Rattle.std.proofs.lemmas.List.{ext_get_or, get_or-map, get_or-replicate, get_or_past, length-map, length-replicate, map_push}
-use Rattle.std.proofs.lemmas.List.FromFn.{map-range_with_len_more}
+use Rattle.std.proofs.lemmas.List.{ext_get_or, get_or-map, get_or-replicate, get_or_past, length-map, length-replicate}
+use Rattle.std.proofs.lemmas.Option.{slice_get_cases}
 use Rattle.flow_types.specs.declared.record.Flow.{Flow}
 use Rattle.flow_types.specs.Size.{IsShape, Size}
 use Rattle.group_search.specs.Records.{AreHandled}
@@ -10,19 +10,14 @@ use Rattle.group_history.specs.declared.change.Change.{Change}
 use Rattle.partial_fib.specs.Fib.{FibState, fib_after}
 use Rattle.replica_shard.specs.Shard.{ShardState, shard_after}
 use Rattle.replay_model.specs.Replaying.{fresh, fresh_node}
-use Rattle.replay_model.specs.State.{ClusterState, Journals, Taken}
+use Rattle.replay_model.specs.State.{ClusterState, Journals, Taken, owners_in}
 use Rattle.turn_sender.specs.Sender.{SenderState, changes_in}
-use Rattle.cluster_replay.specs.Cluster.{AreOpened, AreOpenedNodes, AreOpenedSenders, GoToNodes, IsCluster, IsFibOf, IsNodeOf, IsTableOf, NodeState, NodeStore, by_number, cluster_of, fib_in, journal_in, no_fib, no_node, no_sender, no_shard, node_state_of, owners_in, shard_in, taken_in}
-use Rattle.cluster_replay.proofs.Numbered.{at_number, numbered}
+use Rattle.cluster_open.specs.Opened.{AreOpenedNodes, AreOpenedSenders, IsOpenedNode, by_number}
+use Rattle.cluster_open.specs.declared.node.NodeParts.{NodeParts}
+use Rattle.cluster_replay.specs.Cluster.{AreFreshNodes, GoToNodes, IsCluster, IsFibOf, IsNodeOf, IsTableOf, NodeState, NodeStore, cluster_of, fib_in, journal_in, no_fib, no_node, no_sender, no_shard, node_of_parts, node_state_of, shard_in, taken_in}
+use Rattle.cluster_open.proofs.Numbered.{at_number, numbered}
 
 -- ---- lists by number
-
--- one more at the end, that says what the next one is to say
-pub one_more : {X Y : Type 0} (say : X → Y) (each : ℕ → Y) (all : List X) (new : X) (count : ℕ) → map say all ≡ by_number count each → say new ≡ each count
-    → map say (all ++ new ∷ []) ≡ by_number (count + 1) each
-one_more say each all new count before here =
-    map_push say all new ∙ ap (λ xs. xs ++ say new ∷ []) before ∙ ap (λ x. by_number count each ++ x ∷ []) here
-    ∙ sym (map-range_with_len_more each 0 count count (omega arith))
 
 -- a list whose elements are all the same
 pub is_replicate : {X : Type 0} (count : ℕ) (all : List X) (x d : X) → length all ≡ count → ((i : ℕ) → i < count → get_or all i d ≡ x) → all ≡ replicate count x
@@ -42,23 +37,37 @@ module _ (size : Size) (flows : List Flow) where
   opened_fib : (number owner : ℕ) (fib : FibState) → fib ≡ fib_after size number owner flows [] → IsFibOf size number owner flows [] fib
   opened_fib number owner fib is = subst (IsFibOf size number owner flows []) (sym is) (record { sent = omega arith; stands = refl })
 
-  pub opened_node : (number count : ℕ) (node : NodeState) → count ≡ owners_in size
-      → AreOpened count (λ (owner : ℕ). shard_after size owner flows []) node.shards
-      → AreOpened count (λ (owner : ℕ). fib_after size number owner flows []) node.fibs
-      → IsNodeOf size flows (λ (owner : ℕ). []) number node
-  opened_node number count node all shards fibs =
+  opened_node : (number : ℕ) (parts : NodeParts) → IsOpenedNode size flows number parts → IsNodeOf size flows (λ (owner : ℕ). []) number (node_state_of (node_of_parts parts))
+  opened_node number parts opened =
+      let node = node_state_of (node_of_parts parts) in
+      let count = owners_in size in
       let table : ℕ → ShardState = λ (owner : ℕ). shard_after size owner flows [] in
       let fib : ℕ → FibState = λ (owner : ℕ). fib_after size number owner flows [] in
       record {
-        one_table_each = ap length shards ∙ numbered count table ∙ all;
-        one_fib_each = ap length fibs ∙ numbered count fib ∙ all;
+        one_table_each = ap length opened.tables ∙ numbered count table;
+        one_fib_each = ap length opened.fibs ∙ numbered count fib;
         tables = λ owner low.
             opened_table owner (shard_in node owner)
-            (ap (λ (l : List ShardState). get_or l owner no_shard) shards ∙ at_number count table owner no_shard (omega (arith, all)));
+            (ap (λ (l : List ShardState). get_or l owner no_shard) opened.tables ∙ at_number count table owner no_shard low);
         fibs = λ owner low.
             opened_fib number owner (fib_in node owner)
-            (ap (λ (l : List FibState). get_or l owner no_fib) fibs ∙ at_number count fib owner no_fib (omega (arith, all)));
+            (ap (λ (l : List FibState). get_or l owner no_fib) opened.fibs ∙ at_number count fib owner no_fib low);
       }
+
+  -- the nodes of parts that were opened
+  pub fresh_nodes : (parts : List NodeParts) → AreOpenedNodes size flows parts → AreFreshNodes size flows (map node_of_parts parts)
+  fresh_nodes parts opened = (length-map parts node_of_parts ∙ opened.0, each)
+    where
+      each : (number : ℕ) (d : NodeStore) → number < length (map node_of_parts parts) → IsNodeOf size flows (λ (owner : ℕ). []) number (node_state_of (get_or (map node_of_parts parts) number d))
+      each number d low =
+          let there : number < length parts = omega (arith, low, length-map parts node_of_parts) in
+          elim (slice_get_cases parts number).1 [
+            | inl found ↦
+                subst (λ (node : NodeStore). IsNodeOf size flows (λ (owner : ℕ). []) number (node_state_of node))
+                (sym (get_or-map node_of_parts parts number found.0 d there))
+                (opened_node number (get_or parts number found.0) (opened.1 number found.0 there))
+            | inr past ↦ absurd (omega (arith, there, past.0))
+          ]
 
 -- ---- a cluster
 
@@ -93,7 +102,7 @@ module _ (size : Size) (flows : List Flow) (number : ℕ) (node : NodeState) (is
       ∙ ap (λ (l : List ℕ). let taken : Taken = record { tables = replicate size.nodes 0; fibs = l } in taken) (numbered_same size.nodes fibs 0 no_fib_turns)
 
 module _ (size : Size) (flows : List Flow) (owners : List SenderState) (nodes : List NodeStore) (senders : AreOpenedSenders size flows owners)
-    (opened : AreOpenedNodes size flows nodes) where
+    (opened : AreFreshNodes size flows nodes) where
   no_changes : (owner : ℕ) → journal_in owners owner ≡ []
   no_changes owner = elim (cases_lt owner (length owners)) [
     | inl low ↦ (senders.1 owner no_sender low).0

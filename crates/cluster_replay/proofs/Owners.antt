@@ -18,16 +18,16 @@ use Rattle.rib_owner.specs.Acceptance.{change_of, grounds, refusal, updated_key}
 use Rattle.rib_owner.specs.Turn.{node_entered}
 use Rattle.replica_shard.specs.Shard.{shard_after}
 use Rattle.partial_fib.specs.Fib.{fib_after}
-use Rattle.replay_model.specs.State.{ClusterOpening, journal_of}
+use Rattle.replay_model.specs.State.{ClusterOpening, journal_of, owners_in}
 use Rattle.replay_model.specs.Updates.{after_update, journals_by, reply_by, update_owner, update_reply, verdict}
 use Rattle.replay_model.specs.declared.reply.Reply.{Reply}
 use Rattle.replay_model.specs.declared.reply.Reply.TheVariants.{Accepted, Refused}
 use Rattle.replay_model.proofs.Cuts.{Grows, grown-length, grown-take, grows-by, grows-not}
 use Rattle.turn_sender.specs.Sender.{AnswersSender, IsSenderOf, SenderState, changes_in}
-use Rattle.cluster_replay.specs.Cluster.{GoToNodes, IsCluster, IsFibOf, IsNodeOf, IsTableOf, NodeState, fib_in, journal_in, journals_in, no_node, no_sender, owners_in, shard_in, told_of}
+use Rattle.cluster_replay.specs.Cluster.{GoToNodes, IsCluster, IsFibOf, IsNodeOf, IsTableOf, NodeState, fib_in, journal_in, journals_in, no_node, no_sender, shard_in, told_of}
 use Rattle.cluster_replay.proofs.Carried.{journal_is, owner_low}
 use Rattle.cluster_replay.proofs.NodeFacts.{each_set}
-use Rattle.cluster_replay.proofs.Numbered.{set_number}
+use Rattle.cluster_open.proofs.Numbered.{set_number}
 
 -- ---- journals that grow
 

@@ -25,11 +25,11 @@ use Rattle.replica_shard.specs.Shard.{ShardState, content_after, home_in_state, 
 use Rattle.replica_shard.proofs.Below.{decoded_below}
 use Rattle.partial_fib.specs.Fib.{FibState, record_after}
 use Rattle.replay_model.specs.Packets.{answer_of, fib_record_after, first_changes, packet_reply, reply_sent, routed_after, version_after}
-use Rattle.replay_model.specs.State.{ClusterOpening, Taken, fib_turns, home_of_key, journal_of, owner_of_group, table_turns}
+use Rattle.replay_model.specs.State.{ClusterOpening, Taken, fib_turns, home_of_key, journal_of, owner_of_group, owners_in, table_turns}
 use Rattle.replay_model.specs.declared.reply.Reply.TheVariants.{Nowhere}
 use Rattle.replay_model.proofs.Parts.{record_there}
 use Rattle.turn_sender.specs.Sender.{SenderState}
-use Rattle.cluster_replay.specs.Cluster.{GoToNodes, GoesTo, IsCluster, IsFibOf, IsTableOf, NodeState, fib_in, journal_in, journals_in, no_node, owners_in, shard_in, taken_in}
+use Rattle.cluster_replay.specs.Cluster.{GoToNodes, GoesTo, IsCluster, IsFibOf, IsTableOf, NodeState, fib_in, journal_in, journals_in, no_node, shard_in, taken_in}
 use Rattle.cluster_replay.proofs.Carried.{fib_turns_is, journal_is, owner_low, table_turns_is}
 use Rattle.cluster_replay.proofs.Owners.{owner_of_block}
 

@@ -11,13 +11,14 @@ use Rattle.partial_fib.specs.Store.{FibStore, state_of}
 use Rattle.partial_fib.specs.Fib.{FibState}
 use Rattle.replica_shard.specs.Shard.{ShardState}
 use Rattle.replay_model.specs.Carrying.{turns_taken}
-use Rattle.replay_model.specs.State.{Taken, fib_turns, journal_of, table_turns}
+use Rattle.replay_model.specs.State.{Taken, fib_turns, journal_of, owners_in, table_turns}
 use Rattle.turn_sender.specs.Sender.{SenderState, changes_in}
-use Rattle.cluster_replay.specs.Cluster.{IsCluster, IsSized, NodeState, NodeStore, RunState, by_number, cluster_of, fib_in, journal_in, journals_in, no_fib, no_node, no_sender, no_shard, node_state_of, owners_in, shard_in, taken_in}
+use Rattle.cluster_open.specs.Opened.{by_number}
+use Rattle.cluster_replay.specs.Cluster.{IsCluster, IsSized, NodeState, NodeStore, RunState, cluster_of, fib_in, journal_in, journals_in, no_fib, no_node, no_sender, no_shard, node_state_of, shard_in, taken_in}
 use Rattle.cluster_replay.proofs.Answered.{fib_here, shard_here}
 use Rattle.cluster_replay.proofs.Carried.{fib_turns_is, journal_is, owner_low, table_turns_is, taken_is}
 use Rattle.cluster_replay.proofs.Held.{held, node_here, node_there, owner_there}
-use Rattle.cluster_replay.proofs.Numbered.{numbered}
+use Rattle.cluster_open.proofs.Numbered.{numbered}
 
 module _ (size : Size) (flows : List Flow) (owners : List SenderState) (stores : List NodeStore) (is : IsCluster size flows owners (map node_state_of stores))
     (lacks : Bool) (run : RunState) where

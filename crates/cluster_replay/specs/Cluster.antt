@@ -1,6 +1,5 @@
 -- What stands in a cluster's owners and nodes, and what a contract sees of them.
-use Rattle.std.specs.Prelude.{◌≡◌, ℕ, ◌<◌, ◌≤◌, Bool, List, [], length, map, min, take, slice_index_or, All, Option, Some, None, Result, Ok, Err, IfSome, slice_set}
-use Rattle.std.specs.List.{range_with_len}
+use Rattle.std.specs.Prelude.{◌≡◌, ℕ, ◌<◌, ◌≤◌, Bool, List, [], length, map, take, slice_index_or, All, Option, Some, None, Result, Ok, Err, IfSome, slice_set}
 use Rattle.flow_types.specs.declared.record.Flow.{Flow}
 use Rattle.flow_types.specs.Size.{IsShape, Size}
 use Rattle.group_search.specs.Records.{AreHandled}
@@ -13,12 +12,14 @@ use Rattle.delta_codec.specs.declared.message.FibMessage.{FibMessage}
 use Rattle.delta_codec.specs.declared.message.TableMessage.{TableMessage}
 use Rattle.packet_reader.specs.declared.event.Part.{Part}
 use Rattle.replay_model.specs.Carrying.{carry_reply, turns_taken}
-use Rattle.replay_model.specs.State.{ClusterState, Journals, Taken, fib_turns, journal_of, table_turns, taken_by}
+use Rattle.replay_model.specs.State.{ClusterState, Journals, Taken, fib_turns, journal_of, owners_in, table_turns, taken_by}
 use Rattle.replay_model.specs.declared.reply.Reply.{Reply}
 use Rattle.replay_model.specs.declared.reply.Reply.TheVariants.{Accepted, Applied, Refused}
 use Rattle.turn_sender.specs.Sender.{IsSenderOf, SenderState, changes_in}
 use Rattle.replica_shard.specs.Shard.{ShardState, shard_after, with_content}
 use Rattle.replica_shard.specs.Store.{ShardStore, shard_state_of}
+use Rattle.cluster_open.specs.Opened.{by_number}
+use Rattle.cluster_open.specs.declared.node.NodeParts.{NodeParts}
 
 -- what a node says: its table and its FIB of each owner that has a block
 pub record NodeState : Type 0 where
@@ -30,6 +31,10 @@ pub record NodeStore : Type 0 where
   pub shards : List ShardStore
   pub fibs : List FibStore
 
+-- a node of these parts
+abbrev pub node_of_parts : NodeParts → NodeStore
+node_of_parts parts = record { shards = parts.tables.items; fibs = parts.fibs.items }
+
 abbrev pub node_state_of : NodeStore → NodeState
 node_state_of node = record { shards = map shard_state_of node.shards; fibs = map state_of node.fibs }
 
@@ -37,14 +42,6 @@ node_state_of node = record { shards = map shard_state_of node.shards; fibs = ma
 pub record RunState : Type 0 where
   pub cluster : ClusterState
   pub lacks_memory : Bool
-
--- how many owners have a block
-abbrev pub owners_in : Size → ℕ
-owners_in size = min size.nodes size.blocks
-
--- one for each node of so many, by its number
-abbrev pub by_number : {T : Type 0} → (nodes : ℕ) → (ℕ → T) → List T
-by_number nodes each = map each (range_with_len 0 nodes)
 
 abbrev pub no_size : Size
 no_size = record { nodes = 0; blocks = 0 }
@@ -127,10 +124,6 @@ pub record IsCluster (size : Size) (flows : List Flow) (owners : List SenderStat
   pub one_node_each : length nodes ≡ size.nodes
   pub each_node : (number : ℕ) → number < size.nodes → IsNodeOf size flows (journal_in owners) number (slice_index_or nodes number no_node)
 
--- one for each of so many owners, as it is before the owner's first turn
-abbrev pub AreOpened : {T : Type 0} → (owners : ℕ) → (ℕ → T) → List T → Type 0
-AreOpened owners opened all = all ≡ by_number owners opened
-
 -- ---- what a run becomes
 
 -- the run with these journals, or with nodes that have taken so much
@@ -167,15 +160,9 @@ told_of owner (Err refused) = Some (Refused refused)
 
 -- ---- how it is opened
 
--- an owner for each that has a block, before its first turn
-abbrev pub AreOpenedSenders : Size → List Flow → List SenderState → Type 0
-AreOpenedSenders size flows owners =
-    (length owners ≡ owners_in size)
-    × ((owner : ℕ) (d : SenderState) → owner < length owners → (changes_in (slice_index_or owners owner d) ≡ []) × IsSenderOf size owner flows (slice_index_or owners owner d))
-
 -- each node, before any owner's first turn
-abbrev pub AreOpenedNodes : Size → List Flow → List NodeStore → Type 0
-AreOpenedNodes size flows nodes =
+abbrev pub AreFreshNodes : Size → List Flow → List NodeStore → Type 0
+AreFreshNodes size flows nodes =
     (length nodes ≡ size.nodes)
     × ((number : ℕ) (d : NodeStore) → number < length nodes → IsNodeOf size flows (λ owner. []) number (node_state_of (slice_index_or nodes number d)))
 

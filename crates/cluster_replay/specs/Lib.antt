@@ -1,10 +1,5 @@
-pub mod Limits
 pub mod Outcome
-pub mod Reading
 pub mod Seen
-pub mod FirstBad
-pub mod Headline
 pub mod Laws
 pub mod Cluster
 pub mod Turn
-pub mod Dealing

@@ -3,8 +3,8 @@
 ghost use Rattle.std.specs.Prelude.{◌≡◌, ◌<◌, ◌≤◌, IfOk, OnErr, OnOk, length};
 ghost use Rattle.packet_reader.specs.declared.event.Part.TheVariants.{Fib as of_fib, Table as of_table};
 ghost use Rattle.replay_model.specs.Carrying.{after_carry, carry_reply, turns_taken};
-ghost use Rattle.replay_model.specs.State.{journal_of};
-ghost use Rattle.cluster_replay.specs.Cluster.{owners_in, with_nodes};
+ghost use Rattle.replay_model.specs.State.{journal_of, owners_in};
+ghost use Rattle.cluster_replay.specs.Cluster.{with_nodes};
 ghost use Rattle.cluster_replay.specs.Turn.{IsTurnsTableMessage};
 
 use crate::cluster::Cluster;

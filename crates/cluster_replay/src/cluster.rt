@@ -91,7 +91,7 @@ impl Cluster {
         ensures refused { OnErr result (self.new ≡ self.old) }
     {
         let owner = self.shape.owner(place(self.shape, update.key()).block);
-        let answered = self.owners[usize::from(owner)].accept(update);
+        let answered = self.owners[usize::from(owner)].accept(self.flows.as_slice(), update);
         told(owner, answered)
     }
 

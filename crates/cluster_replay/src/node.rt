@@ -1,24 +1,18 @@
-ghost use Rattle.std.specs.Prelude.{◌≡◌, ◌+◌, ◌%◌, ◌<◌, ◌≤◌, [], IfOk, OnErr, length, map};
-ghost use Rattle.flow_types.specs.Map.{AreDistinct};
-ghost use Rattle.partial_fib.specs.Fib.{fib_after};
-ghost use Rattle.partial_fib.specs.Store.{state_of};
+ghost use Rattle.std.specs.Prelude.{◌≡◌, ◌+◌, ◌%◌, ◌<◌, ◌≤◌, IfOk, OnErr, length};
 ghost use Rattle.partial_fib.specs.Message.{FibMessageFits};
 ghost use Rattle.group_search.specs.Canon.{rows_in};
 ghost use Rattle.replica_shard.specs.Message.{TableMessageFits};
-ghost use Rattle.replica_shard.specs.Shard.{free_rows, home_in_state, route_in_state, shard_after};
-ghost use Rattle.replica_shard.specs.Store.{shard_state_of};
-ghost use Rattle.cluster_replay.specs.Cluster.{AreOpened, IsNodeOf, after_fib, after_table, fib_in, node_state_of, owners_in, shard_in, taking_reply};
+ghost use Rattle.replica_shard.specs.Shard.{free_rows, home_in_state, route_in_state};
+ghost use Rattle.cluster_replay.specs.Cluster.{after_fib, after_table, fib_in, node_of_parts, node_state_of, shard_in, taking_reply};
 
-use crate::dealing::deal;
-use crate::table::Table;
+use cluster_open::{NodeParts, Table};
 use delta_codec::{FibMessage, TableMessage};
-use flow_types::{Flow, FlowKey, Shape};
+use flow_types::FlowKey;
 use hash_family::Place;
 use out_of_memory::OutOfMemory;
 use partial_fib::{Fib, FibRefused};
 use replay_model::Reply;
-use replica_shard::{Route, ShardPlan, ShardRefused};
-use std::alloc::Global;
+use replica_shard::{Route, ShardRefused};
 use std::marker::Model;
 
 /// One node of a cluster: its table and its FIB of each owner that has a block, by the owner's number.
@@ -37,24 +31,14 @@ impl Model for Node {
 }
 
 impl Node {
-    /// The node of this number, before any owner's first turn.
-    pub(crate) fn open(
-        alloc: Global,
-        shape: Shape,
-        number: u8,
-        flows: &[Flow],
-        plans: &[ShardPlan],
-    ) -> Result<Node, OutOfMemory>
-        requires node { number < shape.nodes }
-        requires distinct { AreDistinct flows.now }
-        requires planned { AreOpened (owners_in shape) (λ owner. shard_after shape owner flows.now []) (map shard_state_of plans.now) }
-        ensures { IfOk result (λ node. IsNodeOf shape flows.now (λ owner. []) number (node_state_of node)) }
+    /// The node of these parts.
+    pub(crate) fn of(parts: NodeParts) -> Node
+        ensures { result ≡ node_of_parts parts }
     {
-        let owners = shape.nodes().min(shape.blocks()) as u8;
-        Ok(Node {
-            tables: tables(alloc, plans)?,
-            fibs: fibs(alloc, shape, number, owners, flows)?,
-        })
+        Node {
+            tables: parts.tables,
+            fibs: parts.fibs,
+        }
     }
 
     /// Takes the message of a turn into the table of its owner. The table's room is enough for it where it is the next turn.
@@ -115,38 +99,4 @@ impl Node {
             Err(FibRefused::Foreign { .. }) => unreachable!(),
         }
     }
-}
-
-/// A table as each of these plans has it.
-fn tables(alloc: Global, plans: &[ShardPlan]) -> Result<Vec<Table>, OutOfMemory>
-    ensures { IfOk result (λ tables. tables.items ≡ plans.now) }
-{
-    let mut tables = Vec::new(alloc);
-    'plans: for plan in plans {
-        tables.push(Table::open(alloc, plan)?)?;
-    }
-    Ok(tables)
-}
-
-/// The node's FIB of each of so many owners.
-fn fibs(
-    alloc: Global,
-    shape: Shape,
-    number: u8,
-    owners: u8,
-    flows: &[Flow],
-) -> Result<Vec<Fib>, OutOfMemory>
-    requires node { number < shape.nodes }
-    requires nodes { owners ≤ shape.nodes }
-    requires blocks { owners ≤ shape.blocks }
-    requires distinct { AreDistinct flows.now }
-    ensures { IfOk result (λ fibs. AreOpened owners (λ owner. fib_after shape number owner flows.now []) (map state_of fibs.items)) }
-{
-    let dealt = deal(alloc, shape, number, flows)?;
-    let mut fibs = Vec::new(alloc);
-    'owners: for owner in 0..owners {
-        let own = dealt[usize::from(owner)].as_slice();
-        fibs.push(Fib::open(alloc, shape, number, owner, own)?)?;
-    }
-    Ok(fibs)
 }

@@ -4,17 +4,16 @@ ghost use Rattle.csv_rows.specs.Rows.{rows};
 ghost use Rattle.flow_types.specs.Input.{most_octets};
 ghost use Rattle.packet_reader.specs.declared.mode.Mode.TheVariants.{Replay};
 ghost use Rattle.run_report.specs.Report.{AreOfTheirEvents};
-ghost use Rattle.cluster_replay.specs.Limits.{named_fault};
+ghost use Rattle.cluster_open.specs.Limits.{named_fault};
+ghost use Rattle.cluster_open.specs.Reading.{IsReadFrom};
+ghost use Rattle.cluster_open.specs.Runs.{AnswersRun};
 ghost use Rattle.cluster_replay.specs.Outcome.{outcome, outcome_by, replay_replies};
-ghost use Rattle.cluster_replay.specs.Reading.{IsReadFrom};
 ghost use Rattle.cluster_replay.specs.Seen.{said};
-ghost use Rattle.cluster_replay.specs.Headline.{IsRunOf};
 
 use crate::answering::replies;
-use crate::fault::InputFault;
 use crate::opening::open;
-use crate::reading::{InputRows, read_rows, read_vec};
-use packet_reader::Event;
+use cluster_open::{InputFault, InputRows, read_rows, read_vec};
+use packet_reader::{Event, Mode};
 use replay_model::Reply;
 use run_report::report;
 use std::alloc::Global;
@@ -44,9 +43,9 @@ pub fn replay<R: Threads + Sync>(
     requires few_workers { workers ≤ 64 }
     requires limit { length bytes.now ≤ most_octets }
     ensures answers { Answers (λ text. text.items) named_fault (outcome bytes.now) result }
-    ensures run { IfOk result (λ text. IsRunOf Replay 1 bytes.now text.items) }
+    ensures run { AnswersRun Replay 1 bytes.now result }
 {
-    match read_rows(alloc, bytes) {
+    match read_rows(alloc, bytes, Mode::Replay) {
         Ok(input) => print_input(rt, alloc, input, workers),
         Err(fault) => Err(fault),
     }
@@ -63,9 +62,9 @@ pub fn replay_vec<R: Threads + Sync>(
     requires few_workers { workers ≤ 64 }
     requires limit { length bytes.items ≤ most_octets }
     ensures answers { Answers (λ text. text.items) named_fault (outcome bytes.items) result }
-    ensures run { IfOk result (λ text. IsRunOf Replay 1 bytes.items text.items) }
+    ensures run { AnswersRun Replay 1 bytes.items result }
 {
-    match read_vec(alloc, bytes) {
+    match read_vec(alloc, bytes, Mode::Replay) {
         Ok(input) => print_input(rt, alloc, input, workers),
         Err(fault) => Err(fault),
     }
@@ -85,7 +84,7 @@ pub fn answer_rows<R: Threads + Sync>(
     ensures fit { IfOk result (λ made. AreOfTheirEvents made.script.items made.replies.items) }
     ensures counted { IfOk result (λ made. made.row_count ≡ length (rows bytes.now)) }
 {
-    match read_rows(alloc, bytes) {
+    match read_rows(alloc, bytes, Mode::Replay) {
         Ok(input) => answer_input(rt, alloc, input, workers),
         Err(fault) => Err(fault),
     }
@@ -100,11 +99,11 @@ fn print_input<R: Threads + Sync>(
 ) -> Result<Vec<u8>, InputFault>
     requires some_worker { 1 ≤ workers }
     requires few_workers { workers ≤ 64 }
-    requires read { (octets : List ℕ) × IsReadFrom octets input.opening input.script.items }
-    ensures answers { (octets : List ℕ) → IsReadFrom octets input.opening input.script.items →
+    requires read { (octets : List ℕ) × IsReadFrom Replay octets input.opening input.script.items }
+    ensures answers { (octets : List ℕ) → IsReadFrom Replay octets input.opening input.script.items →
         Answers (λ text. text.items) named_fault (outcome octets) result }
-    ensures run { (octets : List ℕ) → IsReadFrom octets input.opening input.script.items →
-        IfOk result (λ text. IsRunOf Replay 1 octets text.items) }
+    ensures run { (octets : List ℕ) → IsReadFrom Replay octets input.opening input.script.items →
+        AnswersRun Replay 1 octets result }
 {
     match answer_input(rt, alloc, input, workers) {
         Ok(made) => Ok(report(alloc, made.script.as_slice(), made.replies.as_slice())?),
@@ -121,11 +120,11 @@ fn answer_input<R: Threads + Sync>(
 ) -> Result<Replayed, InputFault>
     requires some_worker { 1 ≤ workers }
     requires few_workers { workers ≤ 64 }
-    requires read { (octets : List ℕ) × IsReadFrom octets input.opening input.script.items }
-    ensures answers { (octets : List ℕ) → IsReadFrom octets input.opening input.script.items →
+    requires read { (octets : List ℕ) × IsReadFrom Replay octets input.opening input.script.items }
+    ensures answers { (octets : List ℕ) → IsReadFrom Replay octets input.opening input.script.items →
         Answers said named_fault (outcome_by replay_replies octets) result }
     ensures fit { IfOk result (λ made. AreOfTheirEvents made.script.items made.replies.items) }
-    ensures counted { IfOk result (λ made. (octets : List ℕ) → IsReadFrom octets input.opening input.script.items →
+    ensures counted { IfOk result (λ made. (octets : List ℕ) → IsReadFrom Replay octets input.opening input.script.items →
         made.row_count ≡ length (rows octets)) }
 {
     let InputRows { opening, script } = input;

@@ -1,7 +1,7 @@
 use Rattle.std.proofs.Common.{◌≡◌, ◌∙◌, ◌+◌, ◌<◌, ◌≤◌, ℕ, length, sym, ap, subst, arith}
 use Rattle.replay_model.specs.Carrying.{turns_taken}
-use Rattle.replay_model.specs.State.{journal_of}
-use Rattle.cluster_replay.specs.Cluster.{RunState, owners_in}
+use Rattle.replay_model.specs.State.{journal_of, owners_in}
+use Rattle.cluster_replay.specs.Cluster.{RunState}
 use Rattle.cluster_replay.specs.Turn.{with_turns}
 use Rattle.cluster_replay.proofs.BroughtUp.{first_turns, next_turns, then_taken}
 use Rattle.cluster_replay.proofs.cluster.Cluster.bring_up.Goals as goal

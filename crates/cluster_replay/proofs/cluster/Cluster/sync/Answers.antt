@@ -1,7 +1,7 @@
 use Rattle.std.proofs.Common.{◌≡◌, ◌∙◌, ◌<◌, ℕ, length, sym, ap, subst, arith}
 use Rattle.packet_reader.specs.declared.event.Part.TheVariants.{Fib}
-use Rattle.replay_model.specs.State.{journal_of}
-use Rattle.cluster_replay.specs.Cluster.{RunState, owners_in}
+use Rattle.replay_model.specs.State.{journal_of, owners_in}
+use Rattle.cluster_replay.specs.Cluster.{RunState}
 use Rattle.cluster_replay.specs.Turn.{with_turns}
 use Rattle.cluster_replay.proofs.BroughtUp.{AreBroughtUp, all_brought_up, none_yet, one_more_owner}
 use Rattle.cluster_replay.proofs.cluster.Cluster.sync.Goals as goal

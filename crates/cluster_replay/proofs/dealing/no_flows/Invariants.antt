@@ -1,5 +1,0 @@
-use Rattle.std.proofs.Common.{◌≡◌, [], replicate}
-use Rattle.cluster_replay.proofs.dealing.no_flows.Given as goal
-
-abbrev pub invariant-empty : goal.invariant-empty
-invariant-empty l = l.dealt.items ≡ replicate l.counter []
