@@ -1,0 +1,10 @@
+-- So many records so far, each as it gives the key its node.
+use Rattle.std.proofs.Common.{◌≡◌}
+use Rattle.std.specs.Prelude.{All, sum_by, length}
+use Rattle.group_search.specs.Canon.{rows_in}
+use Rattle.group_search.specs.Words.{HasBits}
+use Rattle.group_cell.specs.Rule.{HasNodes}
+use Rattle.packet_path.proofs.tests.image.Given as goal
+
+abbrev pub invariant-records : goal.invariant-records
+invariant-records l = (length l.records.items ≡ l.counter) × (sum_by rows_in l.records.items ≡ 0) × All (HasBits 1) l.records.items × All (HasNodes 2) l.records.items

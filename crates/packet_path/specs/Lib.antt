@@ -1,0 +1,3 @@
+pub mod Fibs
+pub mod Path
+pub mod Seated
