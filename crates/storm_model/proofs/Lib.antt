@@ -1,0 +1,12 @@
+pub mod Walks
+pub mod Owned
+pub mod Phase
+pub mod Phases
+pub mod Joined
+pub mod Lists
+pub mod Follows
+pub mod Gathered
+pub mod Storms
+pub mod Idle
+pub mod Alone
+pub mod Journals

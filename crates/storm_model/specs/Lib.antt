@@ -1,0 +1,10 @@
+pub mod Walk
+pub mod Stood
+pub mod Merging
+pub mod Owners
+pub mod Phase
+pub mod Lists
+pub mod Follows
+pub mod Run
+pub mod Storm
+pub mod Laws
