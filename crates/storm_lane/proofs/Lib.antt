@@ -1,0 +1,4 @@
+pub mod Rows
+pub mod OwnersSeen
+pub mod LanesSeen
+pub mod Steps

@@ -1,0 +1,4 @@
+pub mod Readers
+pub mod Lane
+pub mod Stepping
+pub mod Work
