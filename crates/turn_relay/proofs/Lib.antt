@@ -1,0 +1,12 @@
+pub mod Messages
+pub mod Follows
+pub mod Runs
+pub mod Sends
+pub mod OwnerSaid
+pub mod OwnerRuns
+pub mod Places
+pub mod Room
+pub mod Settled
+pub mod Resting
+pub mod Linked
+pub mod Phases
