@@ -1,0 +1,15 @@
+pub mod Crews
+pub mod Dealt
+pub mod Meetings
+pub mod Merges
+pub mod Resting
+pub mod Finishings
+pub mod Takings
+pub mod Phased
+pub mod Storming
+pub mod Runs
+pub mod Unlinked
+pub mod Linkings
+pub mod Numbered
+pub mod Made
+pub mod Seats
