@@ -8,7 +8,7 @@ use Rattle.clap.specs.declared.builder.action.ArgAction.TheVariants as action
 use Rattle.flow_types.specs.Text.{number_value}
 use Rattle.command_words.specs.declared.command.Command.{Command}
 use Rattle.command_words.specs.declared.command.Mode.{Mode}
-use Rattle.command_words.specs.declared.command.Mode.TheVariants.{Replay, Grind}
+use Rattle.command_words.specs.declared.command.Mode.TheVariants.{Replay, Storm, Grind}
 
 -- the one word that stands by itself, which has to be there
 abbrev pub mode_rule : Rule
@@ -35,6 +35,7 @@ program =
 abbrev pub mode_of : Text → Option Mode
 mode_of name =
     if bytes_eq name (codes "replay") then Some Replay
+    else if bytes_eq name (codes "storm") then Some Storm
     else if bytes_eq name (codes "grind") then Some Grind
     else None
 

@@ -3,6 +3,8 @@
 pub enum Mode {
     /// It replays the rows on its standard input by one thread.
     Replay,
+    /// It runs the rows on its standard input by threads: owners, lanes and appliers.
+    Storm,
     /// It replays rows that it makes from a seed, and prints one line about them.
     Grind,
 }

@@ -6,10 +6,12 @@ type Case = (&'static str, Option<(Mode, u8, u8, u32)>);
 
 #[test]
 fn words_ask_for_what_they_say(rt: HostRuntime) -> Result<(), Fail> {
-    let cases: [Case; 24] = [
+    let cases: [Case; 28] = [
         ("replay", Some((Mode::Replay, 4, 2, 1))),
         ("grind", Some((Mode::Grind, 4, 2, 1))),
+        ("storm", Some((Mode::Storm, 4, 2, 1))),
         ("--workers 1 replay", Some((Mode::Replay, 1, 2, 1))),
+        ("--lanes=8 storm --workers 7", Some((Mode::Storm, 7, 8, 1))),
         ("replay --workers=64", Some((Mode::Replay, 64, 2, 1))),
         ("grind --seed 0 --lanes 8", Some((Mode::Grind, 4, 8, 0))),
         (
@@ -21,7 +23,8 @@ fn words_ask_for_what_they_say(rt: HostRuntime) -> Result<(), Fail> {
         ("REPLAY", None),
         ("replay replay", None),
         ("grind replay", None),
-        ("storm", None),
+        ("storm replay", None),
+        ("Storm", None),
         ("--help", None),
         ("replay --help", None),
         ("--version", None),
@@ -30,6 +33,7 @@ fn words_ask_for_what_they_say(rt: HostRuntime) -> Result<(), Fail> {
         ("--workers 0 replay", None),
         ("--workers 65 replay", None),
         ("--lanes 9 replay", None),
+        ("--lanes 0 storm", None),
         ("--seed 4294967296 replay", None),
         ("--workers 4 --workers 4 replay", None),
         ("--workers +4 replay", None),

@@ -11,9 +11,9 @@ use flow_types::read_number;
 use out_of_memory::OutOfMemory;
 use std::alloc::{AllocError, Global};
 
-/// What the words after the program's name ask for, or `None` where they are no command: `MODE`, which is `replay` or
-/// `grind`, and each at most once the options `--workers` (1..=64, by default 4), `--lanes` (1..=8, by default 2) and
-/// `--seed` (0..=4294967295, by default 1). A number is decimal digits without sign or leading zero.
+/// What the words after the program's name ask for, or `None` where they are no command: `MODE`, which is `replay`,
+/// `storm` or `grind`, and each at most once the options `--workers` (1..=64, by default 4), `--lanes` (1..=8, by default
+/// 2) and `--seed` (0..=4294967295, by default 1). A number is decimal digits without sign or leading zero.
 pub fn read_command(alloc: Global, words: &[String]) -> Result<Option<Command>, OutOfMemory>
     ensures meaning { IfOk result (λ read. read ≡ meant (map string_bytes words.now)) }
     ensures ranges { IfOk result (λ read. IfSome read IsInRange) }
@@ -95,6 +95,7 @@ fn mode_of(name: &str) -> Option<Mode>
 {
     match name {
         "replay" => Some(Mode::Replay),
+        "storm" => Some(Mode::Storm),
         "grind" => Some(Mode::Grind),
         _ => None,
     }

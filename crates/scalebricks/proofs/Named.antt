@@ -1,9 +1,9 @@
 -- The fault that an input's outcome is.
 use Rattle.std.proofs.Common.{◌≡◌, ℕ, List, Result, Err}
 use Rattle.std.specs.Prelude.{IfSome}
-use Rattle.cluster_replay.specs.declared.fault.InputFault.{InputFault}
-use Rattle.cluster_replay.specs.declared.fault.InputFault.TheVariants.{Bad, BlockFull, RowsFull, OutOfMemory}
-use Rattle.cluster_replay.specs.Limits.{named_fault}
+use Rattle.cluster_open.specs.declared.fault.InputFault.{InputFault}
+use Rattle.cluster_open.specs.declared.fault.InputFault.TheVariants.{Bad, BlockFull, RowsFull, OutOfMemory}
+use Rattle.cluster_open.specs.Limits.{named_fault}
 use Rattle.scalebricks.specs.Printed.{IsRefused}
 
 -- a fault that is printed has a name

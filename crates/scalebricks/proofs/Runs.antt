@@ -1,7 +1,7 @@
 -- What a run comes to that reads nothing.
 use Rattle.std.proofs.Common.{◌≡◌, ◌⊎◌, ℕ, ◌<◌, ◌≤◌, ◌↔◌, List, length, drop, Option, None, Some, Result, Ok, Err, IfSome, ap, inl, inr, arith, length-drop}
-use Rattle.cluster_replay.specs.declared.fault.InputFault.{InputFault}
-use Rattle.cluster_replay.specs.declared.fault.InputFault.TheVariants.{Bad, BlockFull, RowsFull, OutOfMemory}
+use Rattle.cluster_open.specs.declared.fault.InputFault.{InputFault}
+use Rattle.cluster_open.specs.declared.fault.InputFault.TheVariants.{Bad, BlockFull, RowsFull, OutOfMemory}
 use Rattle.sb_io.specs.Streams.{ReadsCount}
 use Rattle.scalebricks.specs.Run.{outcome_status}
 use Rattle.scalebricks.specs.Status.{code}

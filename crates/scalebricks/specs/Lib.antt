@@ -1,4 +1,5 @@
 pub mod Status
 pub mod Printed
 pub mod Grind
+pub mod InputRun
 pub mod Run

@@ -5,8 +5,8 @@ use Rattle.std.specs.Fmt.{decimal}
 use Rattle.flow_types.specs.declared.why.Why.{Why}
 use Rattle.flow_types.specs.declared.why.Why.TheVariants.{Fields, Kind, Number, Address, Node, Duplicate, NoBegin, CarryInStorm, TooManyPhases, NoEnd, AfterEnd}
 use Rattle.flow_types.specs.declared.why.BadRow.{BadRow}
-use Rattle.cluster_replay.specs.declared.fault.InputFault.{InputFault}
-use Rattle.cluster_replay.specs.declared.fault.InputFault.TheVariants.{Bad, BlockFull, RowsFull, OutOfMemory}
+use Rattle.cluster_open.specs.declared.fault.InputFault.{InputFault}
+use Rattle.cluster_open.specs.declared.fault.InputFault.TheVariants.{Bad, BlockFull, RowsFull, OutOfMemory}
 
 -- the word for why a row is refused
 abbrev pub why_word : Why → List ℕ

@@ -5,7 +5,7 @@ ghost use Rattle.std.specs.Io.KnownBytes.{Appends};
 ghost use Rattle.out_of_memory.specs.Answer.{Answers};
 ghost use Rattle.sb_io.specs.Faults.{Rose};
 ghost use Rattle.sb_io.specs.Streams.{AppendsPart};
-ghost use Rattle.cluster_replay.specs.Limits.{named_fault};
+ghost use Rattle.cluster_open.specs.Limits.{named_fault};
 ghost use Rattle.scalebricks.specs.Grind.{grind_outcome};
 ghost use Rattle.scalebricks.specs.Printed.{printed, IsRefused};
 ghost use Rattle.scalebricks.specs.Run.{AppendsSummary, outcome_status};

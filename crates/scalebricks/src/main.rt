@@ -2,19 +2,22 @@
 //! makes itself.
 //!
 //! `run` is all that the program does, over any source and sink: its contract says of each status when it comes and what
-//! was written then, in the mode that the words ask for. `grind` is the mode without input, as a call. `main` gives `run`
-//! standard input and output and the words that the program was called with.
+//! was written then, in the mode that the words ask for. A replay runs the rows by one thread and has one output; a storm
+//! runs them by owners, lanes and appliers, and has one of those that the model allows on so many lanes. `grind` is the
+//! mode without input, as a call. `main` gives `run` standard input and output and the words that the program was called
+//! with.
 //!
-//! Proved: the contracts of `run` and `grind`. Trusted: what standard input and output give and take. Only tested: the line on
-//! standard error, and that memory suffices.
+//! Proved: the contracts of `run` and `grind`, for every schedule of a storm's threads. Trusted: what standard input and
+//! output give and take. Only tested: the line on standard error, that memory suffices, that a storm ends, and that its
+//! threads run beside one another.
 #![tactic(auto)]
 
 #[cfg(test)]
 mod block_tests;
 mod grinding;
+mod input_run;
 mod output;
 mod refusal;
-mod replaying;
 mod running;
 mod status;
 #[cfg(test)]

@@ -1,20 +1,20 @@
 ghost use Rattle.std.specs.Prelude.{ℕ, ◌≡◌, ◌≤◌, ◌↔◌, ◌⊎◌, ◌+◌, IfSome, None, map, string_bytes};
-ghost use Rattle.std.specs.Io.KnownBytes.{Appends};
 ghost use Rattle.flow_types.specs.Input.{most_octets};
 ghost use Rattle.sb_io.specs.Faults.{Rose};
 ghost use Rattle.sb_io.specs.Streams.{ReadsCount, AppendsPart};
-ghost use Rattle.command_words.specs.declared.command.Mode.TheVariants.{Replay, Grind};
+ghost use Rattle.command_words.specs.declared.command.Mode.TheVariants.{Grind};
 ghost use Rattle.scalebricks.specs.Grind.{grind_outcome};
-ghost use Rattle.scalebricks.specs.Printed.{printed, IsRefused};
-ghost use Rattle.scalebricks.specs.Run.{AppendsAll, ComesTo, IsCommand, IsReadable, OfCommand, outcome_status, status_of};
+ghost use Rattle.scalebricks.specs.Printed.{printed};
+ghost use Rattle.scalebricks.specs.Run.{AppendsAll, AppendsLine, IsCommand, IsReadable, OfCommand, OfCommandsOutcome, OfRun, outcome_status, status_of};
 ghost use Rattle.scalebricks.specs.Status.{IsHindered, WritesNothing, code};
 ghost use Rattle.scalebricks.specs.Status.Status.{Done, InputRefused, NoMemory, ReadFailed, TooLarge, WordsRefused, WriteFailed};
 
 use crate::grinding::grind_seed;
-use crate::replaying::replay_input;
+use crate::input_run::{InputRun, run_input};
 use crate::status::{OUT_OF_MEMORY, WORDS_REFUSED};
 use command_words::{Mode, read_command};
 use out_of_memory::OutOfMemory;
+use packet_reader::Mode as RunMode;
 use sb_io::{Gate, Sink, Source};
 use std::alloc::Global;
 use std::sync::Wait;
@@ -29,19 +29,19 @@ pub fn run<S: Source, K: Sink, G: Gate + Sync, R: Threads + Sync + Wait>(
     words: &[String],
     input: &mut S,
     output: &mut K,
-    _gate: &G,
+    gate: &G,
 ) -> u8
     ensures known { result ≤ code TooLarge }
 
-    // In the mode and with the seed of the words: a replay read its input to its end, and what was appended is the run of its
-    // script, which is the headline; what a grind appended is the summary of its own rows.
-    ensures done { result ≡ code Done → OfCommand (map string_bytes words.now) (λ command. AppendsAll command.mode command.seed
+    // In the mode, on the lanes and with the seed of the words: a replay or a storm read its input to its end, and what was
+    // appended is a run of its script that the model allows on so many lanes, which is the headline. A replay has one lane
+    // and one such run; a storm has one of several. What a grind appended is the summary of its own rows.
+    ensures done { result ≡ code Done → OfCommand (map string_bytes words.now) (λ command. AppendsAll command.mode command.lanes command.seed
         (S.left input.old) (S.left input.new) (K.held output.old) (K.held output.new)) }
 
     // The rows have a bad one or a block past a limit, and the line of the first was appended.
-    ensures refused { result ≡ code InputRefused → OfCommand (map string_bytes words.now) (λ command. ComesTo command.mode command.seed
-        (S.left input.old) (S.left input.new) (λ outcome.
-        IsRefused outcome × Appends (K.held output.old) (K.held output.new) (printed outcome))) }
+    ensures refused { result ≡ code InputRefused → OfCommand (map string_bytes words.now) (λ command. OfCommandsOutcome command.mode command.lanes command.seed
+        (S.left input.old) (S.left input.new) (AppendsLine (K.held output.old) (K.held output.new))) }
 
     ensures command { result ≡ code WordsRefused → ¬ IsCommand (map string_bytes words.now) }
     ensures no_command { ¬ IsCommand (map string_bytes words.now) → (result ≡ code WordsRefused) ⊎ (result ≡ code NoMemory) }
@@ -51,7 +51,7 @@ pub fn run<S: Source, K: Sink, G: Gate + Sync, R: Threads + Sync + Wait>(
 
     // What 0 or 1 would have appended was cut short.
     ensures write_fault { result ≡ code WriteFailed → Rose (K.faults output.old) (K.faults output.new) }
-    ensures cut_short { result ≡ code WriteFailed → OfCommand (map string_bytes words.now) (λ command. ComesTo command.mode command.seed
+    ensures cut_short { result ≡ code WriteFailed → OfCommand (map string_bytes words.now) (λ command. OfCommandsOutcome command.mode command.lanes command.seed
         (S.left input.old) (S.left input.new) (λ outcome.
         AppendsPart (K.held output.old) (K.held output.new) (printed outcome))) }
 
@@ -67,13 +67,13 @@ pub fn run<S: Source, K: Sink, G: Gate + Sync, R: Threads + Sync + Wait>(
     ensures read_faults { S.faults input.old ≤ S.faults input.new }
     ensures write_faults { K.faults output.old ≤ K.faults output.new }
 
-    // A replay's status is that of its input, but where a fault or want of memory comes first.
-    ensures exact_replay { OfCommand (map string_bytes words.now) (λ command. command.mode ≡ Replay →
-        IfSome (S.left input.old) (λ octets. (result ≡ status_of octets) ⊎ IsHindered result)) }
-    ensures complete_replay { OfCommand (map string_bytes words.now) (λ command. command.mode ≡ Replay →
-        IfSome (S.left input.old) (λ octets. IsReadable octets
+    // The status of a run is that of its input in its mode, but where a fault or want of memory comes first.
+    ensures exact_run { OfCommand (map string_bytes words.now) (λ command. OfRun command.mode command.lanes (λ mode lanes.
+        IfSome (S.left input.old) (λ octets. (result ≡ status_of mode octets) ⊎ IsHindered result))) }
+    ensures complete_run { OfCommand (map string_bytes words.now) (λ command. OfRun command.mode command.lanes (λ mode lanes.
+        IfSome (S.left input.old) (λ octets. IsReadable mode octets
         → ¬ Rose (S.faults input.old) (S.faults input.new) → ¬ Rose (K.faults output.old) (K.faults output.new)
-        → (result ≡ code Done) ⊎ (result ≡ code NoMemory))) }
+        → (result ≡ code Done) ⊎ (result ≡ code NoMemory)))) }
 
     // A grind reads nothing, and its status is that of its own rows, but where the sink fails or memory lacks.
     ensures own_rows { OfCommand (map string_bytes words.now) (λ command. command.mode ≡ Grind → input.new ≡ input.old) }
@@ -89,7 +89,22 @@ pub fn run<S: Source, K: Sink, G: Gate + Sync, R: Threads + Sync + Wait>(
         Err(OutOfMemory) => return OUT_OF_MEMORY,
     };
     match command.mode {
-        Mode::Replay => replay_input(rt, alloc, command.workers, input, output),
+        Mode::Replay => {
+            let how = InputRun {
+                mode: RunMode::Replay,
+                workers: command.workers,
+                lanes: 1,
+            };
+            run_input(rt, alloc, how, input, output, gate)
+        }
+        Mode::Storm => {
+            let how = InputRun {
+                mode: RunMode::Storm,
+                workers: command.workers,
+                lanes: command.lanes,
+            };
+            run_input(rt, alloc, how, input, output, gate)
+        }
         Mode::Grind => grind_seed(rt, alloc, command.seed, command.workers, output),
     }
 }

@@ -3,7 +3,7 @@ ghost use Rattle.std.specs.Prelude.{◌≢◌};
 use crate::status::{
     DONE, INPUT_LIMIT, INPUT_REFUSED, READ_FAULT, TOO_LARGE, WORDS_REFUSED, WRITE_FAULT,
 };
-use crate::{grind, run};
+use crate::{grind, grind_input, run};
 use sb_io::{HonestSink, HonestSource, MemSink, MemSource, OpenGate};
 use std::alloc::Global;
 use std::sync::Wait;
@@ -18,6 +18,15 @@ type Case<'a> = (&'a str, u8, &'a str);
 /// The program's words, where there is one.
 pub fn one_word(alloc: Global, word: &str) -> Result<Vec<String>, Fail> {
     Ok(vec![in alloc; String::from_str(alloc, word)?]?)
+}
+
+/// The program's words, which spaces part.
+fn words_of(alloc: Global, line: &str) -> Result<Vec<String>, Fail> {
+    let mut words = Vec::new(alloc);
+    for word in line.split(' ') {
+        words.push(String::from_str(alloc, word)?)?;
+    }
+    Ok(words)
 }
 
 #[test]
@@ -109,6 +118,97 @@ fn answers_each_input(rt: HostRuntime) -> Result<(), Fail> {
         assert_eq!(rt; status, wanted, "of {rows:?}");
         assert_eq!(rt; output.content(), printed.as_bytes(), "of {rows:?}");
     }
+    Ok(())
+}
+
+// No packet stands in a phase in which its group changes, so there is one output.
+#[test]
+fn storms_by_any_lanes(rt: HostRuntime) -> Result<(), Fail> {
+    let alloc = rt.alloc();
+    let mut phases = String::from_str(alloc, "cluster,4,1\nbegin\n")?;
+    for _ in 0..255 {
+        phases.push_str("sync\n")?;
+    }
+    let most_phases = format!(in alloc; "{phases}end\n")?;
+    let too_many_phases = format!(in alloc; "{phases}sync\nend\n")?;
+    let cases: [Case; 5] = [
+        (
+            "cluster,4,2\nflow,10.0.0.1,192.0.2.7,1000,443,6,1,77,192.168.0.9\nbegin\n\
+             packet,0,10.0.0.1,192.0.2.7,1000,443,6\n\
+             set,10.0.0.1,192.0.2.7,1002,443,6,3,79,192.168.0.11\n\
+             packet,2,10.0.0.1,192.0.2.7,1000,443,6\nsync\n\
+             set,10.0.0.1,192.0.2.7,1000,443,6,2,78,192.168.0.10\n\
+             packet,1,10.0.0.1,192.0.2.7,1002,443,6\nsync\n\
+             packet,0,10.0.0.1,192.0.2.7,1000,443,6\n\
+             packet,3,10.0.0.1,192.0.2.7,1000,443,6\n\
+             del,10.0.0.1,192.0.2.7,1002,443,6\nsync\n\
+             packet,2,10.0.0.1,192.0.2.7,1000,443,6\nend\n",
+            DONE,
+            "packet 0 in 0 to 1 hops 1 seen 0 fib 0 teid 77 base 192.168.0.9\n\
+             set accepted owner 0 turn 1\n\
+             packet 1 in 2 to 1 hops 1 seen 0 fib 0 teid 77 base 192.168.0.9\n\
+             set accepted owner 1 turn 1\n\
+             packet 2 in 1 to 3 hops 1 seen 1 fib 1 teid 79 base 192.168.0.11\n\
+             packet 3 in 0 to 2 hops 1 seen 1 fib 1 teid 78 base 192.168.0.10\n\
+             packet 4 in 3 to 2 hops 1 seen 1 fib 1 teid 78 base 192.168.0.10\n\
+             del accepted owner 0 turn 2\n\
+             packet 5 in 2 to 2 hops 0 seen 1 fib 1 teid 78 base 192.168.0.10\n\
+             done packets 6 found 6 unknown 0\n",
+        ),
+        // A refused update changes nothing.
+        (
+            "cluster,4,1\nbegin\ndel,10.0.0.1,192.0.2.7,1000,443,6\n\
+             packet,0,10.0.0.1,192.0.2.7,1000,443,6\nend\n",
+            DONE,
+            "del refused absent\npacket 0 in 0 to 0 hops 0 seen 0 fib 0 unknown\n\
+             done packets 1 found 0 unknown 1\n",
+        ),
+        (
+            "cluster,4,1\nbegin\ncarry,0,1,1,table\nend\n",
+            INPUT_REFUSED,
+            "refused row 3 CarryInStorm\n",
+        ),
+        (&most_phases, DONE, "done packets 0 found 0 unknown 0\n"),
+        (
+            &too_many_phases,
+            INPUT_REFUSED,
+            "refused row 258 TooManyPhases\n",
+        ),
+    ];
+    let lines = [
+        "storm --lanes 1",
+        "storm --lanes 2 --workers 64",
+        "storm --lanes 8 --workers 1",
+    ];
+    'inputs: for (rows, wanted, printed) in cases {
+        'words: for line in lines {
+            let words = words_of(alloc, line)?;
+            let mut input = MemSource::new(alloc, rows.as_bytes(), &[])?;
+            let mut output = MemSink::new(alloc, ROOM, &[])?;
+            let status = run(&rt, alloc, &words, &mut input, &mut output, &OpenGate);
+            assert_eq!(rt; status, wanted, "of {rows:?} by {line:?}");
+            assert_eq!(rt;
+                output.content(),
+                printed.as_bytes(),
+                "of {rows:?} by {line:?}"
+            );
+        }
+    }
+    Ok(())
+}
+
+// A hundred phases, in which updates race with packets.
+#[test]
+fn storms_the_rows_of_a_grind(rt: HostRuntime) -> Result<(), Fail> {
+    let alloc = rt.alloc();
+    let words = words_of(alloc, "storm --lanes 4")?;
+    let rows = grind_input(alloc, 1)?;
+    let mut input = MemSource::new(alloc, rows.as_slice(), &[])?;
+    let mut output = MemSink::new(alloc, 4_000_000, &[])?;
+    let status = run(&rt, alloc, &words, &mut input, &mut output, &OpenGate);
+    assert_eq!(rt; status, DONE);
+    let lines = output.content().iter().filter(|octet| **octet == b'\n');
+    assert_eq!(rt; lines.count(), 21_001);
     Ok(())
 }
 

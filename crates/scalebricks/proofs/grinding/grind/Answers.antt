@@ -2,8 +2,8 @@ use Rattle.std.proofs.Common.{◌≡◌, ◌∙◌, ℕ, List, Ok, Result, ap, l
 use Rattle.std.specs.Prelude.{IfSome, Err}
 use Rattle.csv_rows.specs.Rows.{rows}
 use Rattle.run_report.specs.Report.{summary}
-use Rattle.cluster_replay.specs.declared.fault.InputFault.{InputFault}
-use Rattle.cluster_replay.specs.Limits.{named_fault}
+use Rattle.cluster_open.specs.declared.fault.InputFault.{InputFault}
+use Rattle.cluster_open.specs.Limits.{named_fault}
 use Rattle.cluster_replay.specs.Outcome.{outcome_by, replay_replies}
 use Rattle.cluster_replay.specs.Seen.{said}
 use Rattle.cluster_replay.proofs.RunFacts.{made_of_replies, named_of_replies}

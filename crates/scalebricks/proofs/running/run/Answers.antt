@@ -1,4 +1,4 @@
-use Rattle.std.proofs.Common.{arith, inl, inr}
+use Rattle.std.proofs.Common.{arith}
 use Rattle.scalebricks.proofs.Runs.{ReadsCount-same, never_too_large}
 use Rattle.scalebricks.proofs.running.run.Goals as goal
 
