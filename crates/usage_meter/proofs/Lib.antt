@@ -1,0 +1,6 @@
+pub mod Sums
+pub mod Usage
+pub mod Words
+pub mod Keeps
+pub mod Refused
+pub mod Readings
