@@ -57,4 +57,5 @@ def main():
     write("end\n")
 
 
-main()
+if __name__ == "__main__":
+    main()
