@@ -7,13 +7,14 @@ from .running import DONE, SAID, WORDS, WRITE, ends, file_of, run, wants
 
 def refused_words():
     for words in [
-        (), ("fly",), ("Replay",), ("replay ",), ("",), ("replay", "replay"), ("replay", ""), ("replay", "grind"), ("storm",),
+        (), ("fly",), ("Replay",), ("replay ",), ("",), ("replay", "replay"), ("replay", ""), ("replay", "grind"), ("Storm",), ("storm", "replay"),
         ("--help",), ("-h",), ("replay", "--help"), ("--version",), ("replay", "--nonsense"), (b"replay\xff",),
         ("--workers", "4"), ("--workers", "replay"), ("replay", "--workers"), ("replay", "--workers", ""), ("replay", "--workers="),
         ("replay", "--workers", "0"), ("replay", "--workers", "65"), ("replay", "--lanes", "0"), ("replay", "--lanes", "9"),
         ("replay", "--seed", "4294967296"), ("replay", "--seed", "-1"), ("replay", "--seed=-1"), ("replay", "--workers", "four"),
         ("replay", "--workers", "+4"), ("replay", "--workers", "04"), ("replay", "--seed", "00"), ("replay", "--seed", "0x1"),
         ("replay", "--workers", "4", "--workers", "4"), ("replay", "--seed", "1", "--seed=1"), ("grind", "--lanes", "9"),
+        ("storm", "--lanes", "0"), ("storm", "--lanes", "9"), ("storm", "--lanes"), ("storm", "--workers", "65"),
     ]:
         with file_of(SMALL) as file:
             ends(run(words, stdin=file), WORDS, of=f"{words}: ")
@@ -24,6 +25,7 @@ def words_taken():
     for words in [
         ("--workers", "1", "replay"), ("replay", "--workers=64"), ("--lanes", "8", "replay", "--seed", "0"), ("replay", "--lanes", "1"),
         ("--seed=4294967295", "replay"), ("--", "replay"), ("--workers", "7", "--", "replay"),
+        ("storm",), ("storm", "--lanes", "1"), ("--lanes=8", "storm", "--workers", "1", "--seed", "7"), ("--", "storm"),
     ]:
         ends(run(words, input=SMALL), DONE, SMALL_REPORT, f"{words}: ")
 
