@@ -4,7 +4,7 @@ ghost use Rattle.std.specs.Prelude.{◌≡◌, ◌+◌, ◌<◌, ◌≤◌, All,
 ghost use Rattle.group_search.specs.Canon.{rows_in};
 ghost use Rattle.group_search.specs.Image.{Image};
 ghost use Rattle.group_search.specs.Words.{HasBits};
-ghost use Rattle.group_cell.specs.Rule.{HasNodes};
+ghost use Rattle.group_search.specs.Records.{HasNodes};
 ghost use Rattle.group_cell.specs.Seats.{IsReaderOf, IsWriterOf, opened_with, published};
 
 use crate::elapsed::since;

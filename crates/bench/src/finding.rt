@@ -1,7 +1,7 @@
 //! A shared FIB, the turns that are applied to it, and finds in it.
 
 ghost use Rattle.std.specs.Prelude.{◌≡◌, ◌≤◌, ◌<◌, IfSome, All};
-ghost use Rattle.partial_fib.specs.Message.{FibMessageFits};
+ghost use Rattle.delta_codec.specs.Messages.{FibMessageFits};
 
 use crate::elapsed::{since, wait};
 use crate::keys::key;

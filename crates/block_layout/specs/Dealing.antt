@@ -43,7 +43,7 @@ first_least load (suc n) = if nat_lt (load (suc n)) (load (first_least load n)) 
 unfoldable pub least_loaded : List ℕ → ℕ → ℕ
 least_loaded loads bucket = first_least (λ choice. slice_index loads (candidate bucket choice)) (candidate_count - 1)
 
--- the loads with so many keys more in this group
+-- the loads with these keys more in this group
 abbrev pub with_load : List ℕ → ℕ → ℕ → List ℕ
 with_load loads group keys = slice_set loads group (slice_index loads group + keys)
 

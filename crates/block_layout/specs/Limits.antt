@@ -1,18 +1,18 @@
 -- How large a block is.
 use Rattle.std.specs.Prelude.{ℕ}
 
--- the keys of a block stand in so many buckets
+-- how many buckets the keys of a block stand in
 abbrev pub bucket_count : ℕ
 bucket_count = 256
 
--- and its buckets in so many groups
+-- how many groups these buckets go to
 abbrev pub group_count : ℕ
 group_count = 64
 
--- a bucket may go to so many of the groups
+-- how many of the groups a bucket may go to
 abbrev pub candidate_count : ℕ
 candidate_count = 4
 
--- a block has at most so many keys
+-- how many keys a block has at most
 abbrev pub most_keys : ℕ
 most_keys = 1536

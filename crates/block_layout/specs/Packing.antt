@@ -1,15 +1,16 @@
 -- Four choices in an octet.
 use Rattle.std.proofs.Common.{◌≡◌, ℕ, ◌+◌, ◌*◌, ◌/◌, ◌%◌, ◌^◌, ◌<◌, List, length, get_or, refl, sym, ◌∙◌, arith}
 use Rattle.std.proofs.lemmas.List.FromFn.{length-map-range_with_len, get_or-map-range_with_len, fill_by_all}
+use Rattle.block_layout.specs.Limits.{bucket_count}
 use Rattle.block_layout.specs.Choices.{choice_at, choices_in, octet_at, choice_octets, AreOctets}
 
-pub length-choices_in : (bytes : List ℕ) → length (choices_in bytes) ≡ 256
+pub length-choices_in : (bytes : List ℕ) → length (choices_in bytes) ≡ bucket_count
 unfolding choices_in
-length-choices_in bytes = length-map-range_with_len (choice_at bytes) 0 256
+length-choices_in bytes = length-map-range_with_len (choice_at bytes) 0 bucket_count
 
-pub choice_is : (bytes : List ℕ) (bucket : ℕ) → bucket < 256 → get_or (choices_in bytes) bucket 0 ≡ choice_at bytes bucket
+pub choice_is : (bytes : List ℕ) (bucket : ℕ) → bucket < bucket_count → get_or (choices_in bytes) bucket 0 ≡ choice_at bytes bucket
 unfolding choices_in
-choice_is bytes bucket h = get_or-map-range_with_len (choice_at bytes) 0 256 bucket bucket 0 h (omega arith)
+choice_is bytes bucket h = get_or-map-range_with_len (choice_at bytes) 0 bucket_count bucket bucket 0 h (omega arith)
 
 -- the choice of a bucket whose place in its octet is known
 choice_in_octet : (bytes : List ℕ) (bucket k i : ℕ) → k < 64 → i < 4 → bucket ≡ 4 * k + i → get_or (choices_in bytes) bucket 0 ≡ get_or bytes k 0 / 2 ^ (2 * i) % 4

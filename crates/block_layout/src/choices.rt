@@ -4,12 +4,13 @@ ghost use Rattle.block_layout.specs.Choices.{choice_octets, none_chosen, Replace
 ghost use Rattle.block_layout.specs.Limits.{candidate_count, group_count};
 
 use crate::candidates::candidate;
+use crate::limits::CHOICE_OCTETS;
 use std::marker::Model;
 
 /// The choice of each bucket of a block: which of its four candidates is its group.
 #[derive(Clone, Copy, Debug, PartialEq, Eq)]
 pub struct Choices {
-    bytes: [u8; 64],
+    bytes: [u8; CHOICE_OCTETS],
 }
 
 impl Model for Choices {
@@ -35,7 +36,9 @@ impl Choices {
     pub(crate) fn none() -> Choices
         ensures { result ≡ none_chosen }
     {
-        Choices { bytes: [0; 64] }
+        Choices {
+            bytes: [0; CHOICE_OCTETS],
+        }
     }
 
     /// The choice of a bucket, 0..=3.

@@ -5,13 +5,13 @@ ghost use Rattle.block_layout.specs.Limits.{candidate_count, most_keys};
 
 use crate::candidates::candidate;
 use crate::choices::Choices;
-use crate::limits::CANDIDATES;
+use crate::limits::{BUCKETS, CANDIDATES, GROUPS};
 use crate::ranking::{bucket_of, ranks_in_order};
 
 /// The choices that fill the groups of a block evenly, from the numbers of keys of its buckets. The buckets are taken
 /// by falling number of keys, of two alike the lower first. Each goes to the candidate whose group has the fewest keys
 /// so far, of two alike the lower candidate.
-pub fn choose(sizes: &[u16; 256]) -> Choices
+pub fn choose(sizes: &[u16; BUCKETS]) -> Choices
     requires { sum sizes.now ≤ most_keys }
     ensures { result ≡ dealing.choices_of sizes.now }
 {
@@ -25,7 +25,7 @@ pub fn choose(sizes: &[u16; 256]) -> Choices
 /// The buckets that are dealt out so far: the keys that each group has, and the choices.
 #[derive(Drop)]
 struct Dealt {
-    loads: [u32; 64],
+    loads: [u32; GROUPS as usize],
     choices: Choices,
 }
 
@@ -34,13 +34,13 @@ impl Dealt {
         ensures { result ≡ dealing.none_dealt }
     {
         Dealt {
-            loads: [0; 64],
+            loads: [0; GROUPS as usize],
             choices: Choices::none(),
         }
     }
 
     /// Deals out one more bucket.
-    fn deal(&mut self, sizes: &[u16; 256], bucket: u8)
+    fn deal(&mut self, sizes: &[u16; BUCKETS], bucket: u8)
         requires { All (λ load. load < 2 ^ 31) self.old.loads }
         ensures dealt { self.new ≡ dealing.deal sizes.now self.old bucket }
         ensures bounded { (most : ℕ) → All (λ load. load ≤ most) self.old.loads →
@@ -54,7 +54,7 @@ impl Dealt {
 }
 
 /// The candidate of a bucket whose group has the fewest keys, the lower of two alike.
-fn least_loaded(loads: &[u32; 64], bucket: u8) -> u8
+fn least_loaded(loads: &[u32; GROUPS as usize], bucket: u8) -> u8
     ensures value { result ≡ dealing.least_loaded loads.now bucket }
     ensures below { result < candidate_count }
 {

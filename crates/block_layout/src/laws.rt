@@ -5,8 +5,10 @@ ghost use Rattle.block_layout.specs.Dealing.{order_of, first_least, choices_of, 
 ghost use Rattle.block_layout.specs.Limits.{bucket_count, candidate_count, group_count, most_keys};
 ghost use Rattle.block_layout.specs.declared.limits.TheConstants.{BUCKETS, CANDIDATES, GROUPS, MOST_KEYS};
 
+use crate::limits::BUCKETS;
+
 /// The buckets are dealt out by falling number of keys, of two with as many the lower first.
-pub fn order_is_by_size(sizes: &[u16; 256])
+pub fn order_is_by_size(sizes: &[u16; BUCKETS])
     requires { sum sizes.now ≤ most_keys }
     ensures { IsOrder sizes.now (order_of sizes.now) }
 {}
@@ -17,7 +19,7 @@ pub fn first_least_is_least()
 {}
 
 /// A block has a choice for each of its buckets, whatever their sizes.
-pub fn choices_are_of_all_buckets(sizes: &[u16; 256])
+pub fn choices_are_of_all_buckets(sizes: &[u16; BUCKETS])
     ensures { AreChoices (choices_of sizes.now) }
 {}
 

@@ -6,7 +6,7 @@ use crate::limits::{BUCKETS, MOST_KEYS};
 
 /// The ranks of the buckets in the order in which they are dealt out. A bucket with more keys has the lower rank, and
 /// of two with as many keys the lower bucket has it.
-pub(crate) fn ranks_in_order(sizes: &[u16; 256]) -> [u32; 256]
+pub(crate) fn ranks_in_order(sizes: &[u16; BUCKETS]) -> [u32; BUCKETS]
     requires { sum sizes.now ≤ most_keys }
     ensures { result ≡ map (rank sizes.now) (order_of sizes.now) }
 {
@@ -15,7 +15,7 @@ pub(crate) fn ranks_in_order(sizes: &[u16; 256]) -> [u32; 256]
     ranks
 }
 
-fn ranks_of(sizes: &[u16; 256]) -> [u32; 256]
+fn ranks_of(sizes: &[u16; BUCKETS]) -> [u32; BUCKETS]
     requires { sum sizes.now ≤ most_keys }
     ensures { result ≡ map (rank sizes.now) buckets }
 {

@@ -5,7 +5,7 @@ use Rattle.std.proofs.lemmas.List.Sums.{sum_by-cons}
 use Rattle.std.specs.List.{sum_by}
 
 module _ {X : Type 0} where
-  -- the first so many of the lists, and then empty ones
+  -- the first of the lists, and then empty ones
   abbrev pub laid : List (List X) → ℕ → List (List X)
   laid [] b = []
   laid (l ∷ ls) zero = [] ∷ laid ls zero

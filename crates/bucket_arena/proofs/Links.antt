@@ -15,7 +15,7 @@ after_is zero k = omega arith
 after_is (suc p) k = omega (arith, after_is p k)
 
 module _ {X : Type 0} where
-  -- the cell that so many steps lead to
+  -- the cell that this number of steps leads to
   abbrev pub follow : (ℕ → Option (Cell X)) → ℕ → ℕ → ℕ
   follow cell zero n = n
   follow cell (suc p) n = follow cell p (next_of (cell n))

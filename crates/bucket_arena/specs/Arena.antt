@@ -4,7 +4,7 @@ use Rattle.std.specs.List.{sum_by}
 use Rattle.std.specs.Coded.{Coded, code_by, coded×, coded_list, coded_ℕ}
 use Rattle.bucket_arena.specs.declared.chain.Cell.{Cell}
 use Rattle.bucket_arena.specs.declared.chain.Chain.{Chain}
-use Rattle.bucket_arena.specs.Chains.{cell_at, items}
+use Rattle.bucket_arena.specs.Chains.{cell_at, cell_limit, items}
 
 -- the lists, one a bucket, and how many items can be pushed before memory is asked for
 pub record Buckets (X : Type 0) : Type 0 where
@@ -25,7 +25,7 @@ module _ {X : Type 0} where
 
   -- nothing grew, or the room for items at least doubled, up to the most that numbers of 32 bits allow
   abbrev pub HasGrown : Buckets X → Buckets X → Type 0
-  HasGrown before after = (after.spare ≡ before.spare) ⊎ (min (2 * (item_count before + before.spare)) 4294967294 ≤ item_count after + after.spare)
+  HasGrown before after = (after.spare ≡ before.spare) ⊎ (min (2 * (item_count before + before.spare)) (cell_limit - 1) ≤ item_count after + after.spare)
 
   -- the lists of the chains' items
   abbrev pub lists_of : List (Option (Cell X)) → List Chain → List (List X)

@@ -5,12 +5,20 @@ use Rattle.bucket_arena.specs.Row.{IsWritten}
 use Rattle.bucket_arena.specs.declared.chain.Cell.{Cell}
 use Rattle.bucket_arena.specs.declared.chain.Chain.{Chain}
 
+-- an arena has this number of lists
+abbrev pub list_count : ℕ
+list_count = 256
+
+-- an arena has fewer cells than this number, so that 32 bits count them
+abbrev pub cell_limit : ℕ
+cell_limit = 4294967295
+
 -- how often the number stands in the list
 abbrev pub occurrences : ℕ → List ℕ → ℕ
 occurrences number [] = 0
 occurrences number (n ∷ ns) = cond (n == number) 1 0 + occurrences number ns
 
--- the last of these numbers is the one that the chain names, and so many after the first count on from it as the chain says
+-- the last of these numbers is the one that the chain names, and those of its run count on from the first
 pub record IsMarked (ns : List ℕ) (chain : Chain) : Type 0 where
   pub ends : 0 < chain.len → get_or ns (chain.len - 1) 0 ≡ chain.last
   pub runs : (place : ℕ) → place ≤ chain.run → place < chain.len → get_or ns place 0 ≡ chain.first + place
@@ -26,7 +34,7 @@ module _ {X : Type 0} where
   next_of None = 0
   next_of (Some c) = c.next
 
-  -- the numbers of so many cells, from this one on
+  -- the numbers of `len` cells, from this one on
   abbrev pub numbers_from : (ℕ → Option (Cell X)) → ℕ → ℕ → List ℕ
   numbers_from cell zero number = []
   numbers_from cell (suc len) number = number ∷ numbers_from cell len (next_of (cell number))
@@ -83,5 +91,5 @@ module _ {X : Type 0} where
     pub bare : (number : ℕ) → made ≤ number → get_or cells number None ≡ None
     pub marked : (bucket : ℕ) → bucket < length chains → let chain = get_or chains bucket no_cells in IsMarked (numbers (cell_at cells) chain) chain
     pub in_room : made ≤ length cells
-    pub few : length cells < 4294967295
-    pub chain_each : length chains ≡ 256
+    pub few : length cells < cell_limit
+    pub chain_each : length chains ≡ list_count

@@ -47,6 +47,6 @@ module _ (R : RattleType) where
   abbrev pub piece_lent : Ptr → List (Option R.Denot) → Lft → Fml
   piece_lent at cells = in_block (said ffalse) (λ block offset. beside (said (fits cells)) (cells_lent block offset cells)) at
 
-  -- the right to free a block of so many cells
+  -- the right to free a block of `room` cells
   abbrev pub title_owned : (Ty → Ptr → Fml) → Ptr → ℕ → Fml
   title_owned may_free at room = may_free (raw (ty_array (lone R.mir) room)) at

@@ -1,6 +1,7 @@
 //! The arena: 256 lists in one row of cells.
 ghost use Rattle.std.specs.Prelude.{◌≡◌, ℕ, ◌+◌, ◌<◌, ◌≤◌, [], ◌∷◌, ◌++◌, length, get_or, replicate, remove, slice_get, slice_set, IsOk, OnOk, OnErr, None};
 ghost use Rattle.bucket_arena.specs.Arena.{bucket_of, item_count, HasGrown};
+ghost use Rattle.bucket_arena.specs.Chains.{cell_limit, list_count};
 
 use crate::chain::{
     Cell, Chain, append, move_up, next_free, number_at, release, replace, without_last,
@@ -11,16 +12,20 @@ use out_of_memory::OutOfMemory;
 use std::alloc::Global;
 use std::marker::Model;
 
+/// The number of lists of an arena: one for each octet.
+const LISTS: usize = 256;
+
 /// The most cells that an arena can have.
 const MOST_CELLS: usize = 4_294_967_294;
 
-/// 256 lists of items, all in one piece of raw memory, which is freed when the arena is dropped.
+/// 256 lists of items, all in one piece of raw memory. It goes back to the allocator when the arena is dropped, of which no
+/// clause speaks.
 ///
 /// A contract sees the lists and `spare`, the number of items that can be pushed before `reserve` is needed again.
 #[derive(Drop)]
 pub struct Arena<T: Copy> {
     row: Row<Cell<T>>,
-    chains: [Chain; 256],
+    chains: [Chain; LISTS],
     // The cells that were given back.
     free: Chain,
     // How many cells were ever written: those of lesser number.
@@ -45,7 +50,7 @@ impl<T: Copy> Model for Arena<T> {
 impl<T: Copy> Arena<T> {
     /// An arena of empty lists. It takes no memory.
     pub fn new(alloc: Global) -> Arena<T>
-        ensures buckets { result.buckets ≡ replicate 256 [] }
+        ensures buckets { result.buckets ≡ replicate list_count [] }
         ensures spare { result.spare ≡ 0 }
         ensures count { item_count result ≡ 0 }
     {
@@ -55,8 +60,8 @@ impl<T: Copy> Arena<T> {
     /// An arena of empty lists whose cells are those of the row, all of them bare.
     fn over(row: Row<Cell<T>>) -> Arena<T>
         requires bare { (number : ℕ) → get_or row number None ≡ None }
-        requires few { length row < 4294967295 }
-        ensures buckets { result.buckets ≡ replicate 256 [] }
+        requires few { length row < cell_limit }
+        ensures buckets { result.buckets ≡ replicate list_count [] }
         ensures spare { result.spare ≡ length row }
         ensures count { item_count result ≡ 0 }
     {
@@ -68,7 +73,7 @@ impl<T: Copy> Arena<T> {
         };
         Arena {
             row,
-            chains: [empty; 256],
+            chains: [empty; LISTS],
             free: empty,
             made: 0,
         }
@@ -79,7 +84,7 @@ impl<T: Copy> Arena<T> {
     ///
     /// The number of all items and `n` add up to less than 4,294,967,295.
     pub fn reserve(&mut self, n: u32) -> Result<(), OutOfMemory>
-        requires { item_count self.old + n < 4294967295 }
+        requires { item_count self.old + n < cell_limit }
         ensures lists { self.new.buckets ≡ self.old.buckets }
         ensures count { item_count self.new ≡ item_count self.old }
         ensures spare { OnOk result (n ≤ self.new.spare) }
@@ -113,7 +118,7 @@ impl<T: Copy> Arena<T> {
     /// How many items there is room for, with those that stand in the buckets.
     fn room(&self) -> usize
         ensures room { result ≡ item_count self.now + self.now.spare }
-        ensures few { result < 4294967295 }
+        ensures few { result < cell_limit }
     {
         self.row.room()
     }
@@ -128,7 +133,7 @@ impl<T: Copy> Arena<T> {
     /// Moves the items to a piece with room for `room` items in all, bucket by bucket.
     fn move_to(&mut self, room: usize) -> Result<(), OutOfMemory>
         requires enough { item_count self.old ≤ room }
-        requires few { room < 4294967295 }
+        requires few { room < cell_limit }
         ensures lists { self.new.buckets ≡ self.old.buckets }
         ensures room { OnOk result (item_count self.old + self.new.spare ≡ room) }
         ensures refused { OnErr result (self.new.spare ≡ self.old.spare) }
@@ -145,7 +150,7 @@ impl<T: Copy> Arena<T> {
 
     /// Puts the items behind those of the bucket. There is room for them.
     fn extend(&mut self, bucket: u8, items: Items<'_, T>)
-        requires buckets { length self.old.buckets ≡ 256 }
+        requires buckets { length self.old.buckets ≡ list_count }
         requires spare { length items ≤ self.old.spare }
         ensures lists { self.new.buckets ≡ slice_set self.old.buckets bucket (bucket_of self.old bucket ++ items.entry) }
         ensures room { item_count self.new + self.new.spare ≡ item_count self.old + self.old.spare }
@@ -171,7 +176,7 @@ impl<T: Copy> Arena<T> {
     /// How many items the bucket has.
     pub fn len(&self, bucket: u8) -> u32
         ensures len { result ≡ length (bucket_of self.now bucket) }
-        ensures lists { length self.now.buckets ≡ 256 }
+        ensures lists { length self.now.buckets ≡ list_count }
     {
         self.chains[bucket as usize].len
     }

@@ -5,7 +5,7 @@
 //! bucket, and one of the cells that were given back. `specs/Chains.antt` has the laws: each cell stands in exactly one
 //! chain, and the chains' lengths add up to the cells.
 //! Four functions touch the raw memory (`src/piece.rt`): take a piece, read a cell, write a cell, give the piece back.
-//! Only `reserve` asks for memory, and a refusal changes nothing.
+//! Only `reserve` and `settle` ask for memory, and a refusal changes nothing that a contract sees.
 //! Proved: each call's exact answer. Only tested: that `reserve` answers Ok where there is memory.
 #![tactic(auto)]
 

@@ -58,7 +58,8 @@ pub(crate) fn take_piece<T, A: Allocator>(
     }
 }
 
-/// Gives the piece of `room` cells back, whatever they hold.
+/// Gives the piece of `room` cells back, whatever they hold. The piece, what its cells held and its title are gone: the call
+/// takes both whole, and there is nothing left of which a clause could speak.
 pub(crate) fn give_back<T, A: Allocator>(
     alloc: &A,
     room: usize,

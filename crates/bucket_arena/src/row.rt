@@ -96,7 +96,7 @@ impl<T: Copy> Drop for Row<T> {
     }
 }
 
-/// Gives the piece back, if there is one.
+/// Gives the piece back, if there is one. It is gone then, with its title.
 fn give_up<T: Copy>(alloc: &Global, room: usize, piece: Option<(Piece<T>, Title<T, Global>)>)
     requires { IsPieceOf piece room alloc.now }
 {

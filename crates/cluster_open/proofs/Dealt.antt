@@ -9,7 +9,7 @@ use Rattle.flow_types.specs.declared.record.Flow.{Flow}
 use Rattle.flow_types.specs.Map.{AreDistinct}
 use Rattle.flow_types.specs.Size.{Size}
 use Rattle.hash_family.specs.Hash.{place}
-use Rattle.delta_codec.specs.Values.{IsKeyValue}
+use Rattle.flow_types.specs.Key.{IsKeyValue}
 use Rattle.partial_fib.specs.Fib.{fib_after, is_handled_of}
 use Rattle.partial_fib.proofs.Own as own
 use Rattle.cluster_open.specs.Dealing.{AreDealt, own_flows}

@@ -7,21 +7,22 @@ use Rattle.csv_rows.specs.Rows.{Row, rows, field_at}
 use Rattle.flow_types.specs.Size.{Size, IsShape, fewest_blocks, fewest_nodes, most_blocks, most_nodes}
 use Rattle.flow_types.specs.declared.why.Why.{Why}
 use Rattle.flow_types.specs.declared.why.Why.TheVariants as why
-use Rattle.flow_reader.specs.Fields.{and_then, is_kind, number_field}
+use Rattle.row_fields.specs.Fields.{and_then, is_kind, number_field}
 use Rattle.flow_reader.specs.FirstBad.{IsOpening}
 use Rattle.flow_reader.specs.Opening.{shape_of, shape_with}
 use Rattle.flow_reader.specs.declared.opening.Opening.{Opening}
-use Rattle.flow_reader.proofs.FlowFacts.{each-fits, opening-fits}
+use Rattle.flow_reader.proofs.FlowFacts.{opening_fits}
 use Rattle.group_search.specs.Build.{past_limit}
 use Rattle.packet_reader.specs.declared.event.Event.{Event}
 use Rattle.packet_reader.specs.declared.mode.Mode.{Mode}
 use Rattle.packet_reader.specs.FirstBad.{IsScript}
+use Rattle.packet_reader.specs.Form.{IsScriptOf}
 use Rattle.packet_reader.specs.Script.{script_row}
-use Rattle.replay_model.specs.Laws.{CanBeOpened}
+use Rattle.packet_reader.proofs.Forms.{scripts_are_formed}
+use Rattle.run_model.specs.Laws.{CanBeOpened}
 use Rattle.cluster_open.specs.FirstBad.{AreReadable}
 use Rattle.cluster_open.specs.Input.{opened}
-use Rattle.cluster_open.specs.Laws.{CanBeRun, IsScriptOf}
-use Rattle.cluster_open.proofs.KeyRanges.{key_value, script_formed}
+use Rattle.cluster_open.specs.Laws.{CanBeRun}
 
 -- ---- the shape that a row says is one
 
@@ -55,7 +56,7 @@ shape-row true true n b shape e = shape-fields n b shape e
 shape-row true false n b shape e = cc e
 shape-row false wide n b shape e = cc e
 
-says-shape : (row : Row) (shape : Size) → shape_of row ≡ Ok shape → IsShape shape.nodes shape.blocks
+pub says-shape : (row : Row) (shape : Size) → shape_of row ≡ Ok shape → IsShape shape.nodes shape.blocks
 unfolding shape_of
 says-shape row shape e =
     shape-row (is_kind (codes "cluster") row) (length row == 3) (number_field 65535 (field_at row 1)) (number_field 65535 (field_at row 2)) shape e
@@ -65,18 +66,17 @@ says-shape row shape e =
 -- a cluster can be opened by what rows say, where no block is past a limit
 pub can-open : (all : List Row) (opening : Opening) → IsOpening all opening → past_limit opening.shape opening.flows ≡ None → CanBeOpened (opened opening)
 can-open all opening opens within =
-    let fit = opening-fits all opening opens in
+    let fit = opening_fits all opening opens in
     record {
       shape = says-shape opens.begins.first opening.shape opens.begins.says_shape;
       distinct = fit.distinct;
       handled = fit.handled;
-      values = λ k d below.
-          key_value (get_or opening.flows k d).key (each-fits opening.shape.nodes opens.begins.others opening.flows opens.begins.say_flows k d below).key;
+      values = λ k d below. (fit.values k d below).key;
       within = within;
     }
 
 formed : (mode : Mode) (all : List Row) (opening : Opening) (script : List Event) → AreReadable mode all opening script → IsScriptOf mode opening.shape script
-formed mode all opening script readable = script_formed mode opening.shape (drop opening.begin_row all) script readable.goes_on
+formed mode all opening script readable = scripts_are_formed mode opening.shape (drop opening.begin_row all) script readable.goes_on
 
 pub can_be_run : (mode : Mode) (octets : List ℕ) → CanBeRun mode octets
 can_be_run mode octets = record { opens = can-open (rows octets); formed = formed mode (rows octets) }

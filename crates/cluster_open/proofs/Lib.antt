@@ -1,6 +1,6 @@
-pub mod KeyRanges
 pub mod FirstBadFacts
 pub mod InputFacts
 pub mod ReadFacts
 pub mod Numbered
 pub mod Dealt
+pub mod OneRun

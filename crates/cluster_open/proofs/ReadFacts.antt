@@ -7,29 +7,28 @@ use Rattle.csv_rows.specs.Rows.{rows}
 use Rattle.flow_reader.specs.Fit.{IsFit}
 use Rattle.flow_reader.specs.declared.opening.Opening.{Opening}
 use Rattle.flow_reader.proofs.FirstBadFacts.{opening-law}
-use Rattle.flow_reader.proofs.FlowFacts.{opening-fits}
+use Rattle.flow_reader.proofs.FlowFacts.{opening_fits}
 use Rattle.group_search.specs.Build.{PastLimit, past_limit}
 use Rattle.packet_reader.specs.declared.event.Event.{Event}
 use Rattle.packet_reader.specs.declared.mode.Mode.{Mode}
-use Rattle.packet_reader.specs.Form.{IsFormed}
+use Rattle.packet_reader.specs.Form.{IsFormed, IsRowOf, IsScriptOf}
 use Rattle.packet_reader.proofs.FirstBadFacts.{script-law}
-use Rattle.replay_model.specs.Laws.{CanBeOpened}
+use Rattle.packet_reader.proofs.Forms.{scripts_are_formed}
+use Rattle.run_model.specs.Laws.{CanBeOpened}
 use Rattle.cluster_open.specs.declared.fault.InputFault.{InputFault}
 use Rattle.cluster_open.specs.FirstBad.{CanRun}
 use Rattle.cluster_open.specs.Input.{fault_in, input_in, input_of_build, opened}
-use Rattle.cluster_open.specs.Laws.{IsRowOf, IsScriptOf}
 use Rattle.cluster_open.specs.Limits.{fault_of_limit}
 use Rattle.cluster_open.specs.Reading.{IsReadFrom}
 use Rattle.cluster_open.proofs.InputFacts.{can-open, rows_counted}
-use Rattle.cluster_open.proofs.KeyRanges.{script_formed}
 
 module _ (mode : Mode) (octets : List ℕ) (opening : Opening) (script : List Event) (read : IsReadFrom mode octets opening script) where
   -- its keys are distinct and its nodes the shape's
   pub fits : IsFit (rows octets) opening
-  fits = opening-fits (rows octets) opening read.readable.opens
+  fits = opening_fits (rows octets) opening read.readable.opens
 
   pub scripted : IsScriptOf mode opening.shape script
-  scripted = script_formed mode opening.shape (drop opening.begin_row (rows octets)) script read.readable.goes_on
+  scripted = scripts_are_formed mode opening.shape (drop opening.begin_row (rows octets)) script read.readable.goes_on
 
   pub formed : All (IsFormed mode opening.shape) script
   formed = All-weaker (IsRowOf mode opening.shape) (IsFormed mode opening.shape) (λ event is. is.formed) script scripted.rows

@@ -9,7 +9,7 @@ use Rattle.group_search.specs.Build.{PastLimit, past_limit}
 use Rattle.packet_reader.specs.declared.event.Event.{Event}
 use Rattle.packet_reader.specs.declared.mode.Mode.{Mode}
 use Rattle.packet_reader.specs.Script.{script_of}
-use Rattle.replay_model.specs.State.{ClusterOpening}
+use Rattle.run_model.specs.State.{ClusterOpening}
 use Rattle.cluster_open.specs.declared.fault.InputFault.{InputFault}
 use Rattle.cluster_open.specs.declared.fault.InputFault.TheVariants.{Bad}
 use Rattle.cluster_open.specs.Limits.{fault_of_limit}

@@ -1,7 +1,7 @@
 -- The faults that refusals of rows and of builds are.
 use Rattle.std.specs.Prelude.{◌≡◌, Option, Some, None, IfSome, option_map}
-use Rattle.flow_reader.specs.declared.opening.RowRefused.{RowRefused}
-use Rattle.flow_reader.specs.declared.opening.RowRefused.TheVariants as row
+use Rattle.row_fields.specs.declared.refused.RowRefused.{RowRefused}
+use Rattle.row_fields.specs.declared.refused.RowRefused.TheVariants as row
 use Rattle.group_search.specs.Build.{PastLimit}
 use Rattle.group_search.specs.Build.PastLimit.{TooManyFlows, TooManyRows}
 use Rattle.setsep_build.specs.declared.refused.BuildRefused.{BuildRefused}

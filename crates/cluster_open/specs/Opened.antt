@@ -2,20 +2,19 @@
 use Rattle.std.specs.Prelude.{◌≡◌, ℕ, ◌<◌, List, [], length, map, slice_index_or}
 use Rattle.std.specs.List.{range_with_len}
 use Rattle.flow_types.specs.declared.record.Flow.{Flow}
-use Rattle.flow_types.specs.Size.{Size}
+use Rattle.flow_types.specs.Size.{Size, owners_in}
 use Rattle.partial_fib.specs.Fib.{fib_after}
 use Rattle.partial_fib.specs.Store.{state_of}
 use Rattle.replica_shard.specs.Shard.{shard_after}
 use Rattle.replica_shard.specs.Store.{shard_state_of}
-use Rattle.replay_model.specs.State.{owners_in}
-use Rattle.turn_sender.specs.Sender.{IsSenderOf, SenderState, changes_in}
+use Rattle.turn_log.specs.Sender.{IsSenderOf, SenderState, changes_in}
 use Rattle.cluster_open.specs.declared.node.NodeParts.{NodeParts}
 
--- one for each of so many, by its number
+-- one for each number below the count, in order
 abbrev pub by_number : {T : Type 0} → (count : ℕ) → (ℕ → T) → List T
 by_number count each = map each (range_with_len 0 count)
 
--- one for each of so many owners, as it is before the owner's first turn
+-- one for each owner, as it is before the owner's first turn
 abbrev pub AreOpened : {T : Type 0} → (owners : ℕ) → (ℕ → T) → List T → Type 0
 AreOpened owners opened all = all ≡ by_number owners opened
 

@@ -1,17 +1,17 @@
--- A run of an input, in a mode and on so many lanes: what stands in its output.
+-- A run of an input, in a mode and on a number of lanes: what stands in its output.
 use Rattle.std.specs.Prelude.{◌≡◌, ℕ, List, Some, Result, Ok, Err, Vec, IfSome}
 use Rattle.std.specs.Global.{Global}
 use Rattle.csv_rows.specs.Rows.{rows}
 use Rattle.packet_reader.specs.declared.event.Event.{Event}
 use Rattle.packet_reader.specs.declared.mode.Mode.{Mode}
 use Rattle.packet_reader.specs.declared.mode.Mode.TheVariants.{Replay, Storm}
-use Rattle.replay_model.specs.declared.reply.Reply.{Reply}
-use Rattle.replay_model.specs.Allowed.{Allowed}
-use Rattle.replay_model.specs.Lanes.{NeverFalls}
-use Rattle.replay_model.specs.Laws.{no_journals}
-use Rattle.replay_model.specs.Replaying.{replayed_with_updates}
-use Rattle.replay_model.specs.State.{ClusterOpening}
-use Rattle.replay_model.specs.Told.{EachPacket, GoesByRecord, TellsAtOneVersion}
+use Rattle.run_model.specs.declared.reply.Reply.{Reply}
+use Rattle.run_model.specs.Allowed.{Allowed}
+use Rattle.run_model.specs.Lanes.{NeverFalls}
+use Rattle.run_model.specs.Laws.{no_journals}
+use Rattle.run_model.specs.Replaying.{replayed_with_updates}
+use Rattle.run_model.specs.State.{ClusterOpening}
+use Rattle.run_model.specs.Told.{EachPacket, GoesByRecord, TellsAtOneVersion}
 use Rattle.run_report.specs.Report.{report}
 use Rattle.cluster_open.specs.declared.fault.InputFault.{InputFault}
 use Rattle.cluster_open.specs.FirstBad.{CanRun}
@@ -20,7 +20,7 @@ use Rattle.cluster_open.specs.Limits.{named_fault}
 
 -- ---- its replies
 
--- so many lanes answer in this mode, and where the mode fixes the replies, these are they
+-- this number of lanes may answer in this mode, and where the mode fixes the replies, these are they
 abbrev pub IsOfMode : Mode → (lanes : ℕ) → ClusterOpening → List Event → List Reply → Type 0
 IsOfMode Replay lanes opening script replies = (lanes ≡ 1) × (replies ≡ replayed_with_updates opening script)
 IsOfMode Storm lanes opening script replies = Unit {0}
@@ -47,7 +47,7 @@ pub record IsRunOf (mode : Mode) (lanes : ℕ) (octets text : List ℕ) : Type 0
 
 -- ---- what it comes to
 
--- an input comes to a text of a run, or to its fault, in this mode and on so many lanes
+-- an input comes to a text of a run, or to its fault, in this mode and on this number of lanes
 abbrev pub ComesTo : Mode → (lanes : ℕ) → List ℕ → Result (List ℕ) InputFault → Type 0
 ComesTo mode lanes octets (Ok text) = IsRunOf mode lanes octets text
 ComesTo mode lanes octets (Err fault) = fault_in mode octets ≡ Some fault

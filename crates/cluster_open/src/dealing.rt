@@ -1,7 +1,7 @@
 //! How a node's flows are dealt to its FIBs, so that each FIB is opened with its own flows alone.
 
 ghost use Rattle.std.specs.Prelude.{◌≡◌, ◌==◌, ◌++◌, ◌∷◌, [], All, IfOk, OnErr, OnOk, replicate};
-ghost use Rattle.delta_codec.specs.Values.{IsKeyValue};
+ghost use Rattle.flow_types.specs.Key.{IsKeyValue};
 ghost use Rattle.cluster_open.specs.Dealing.{AreDealt};
 
 use flow_types::{Flow, Shape};

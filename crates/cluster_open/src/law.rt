@@ -1,7 +1,7 @@
 ghost use Rattle.std.specs.Prelude.{ℕ, List};
 ghost use Rattle.packet_reader.specs.declared.mode.Mode.{Mode};
 ghost use Rattle.cluster_open.specs.FirstBad.{InputLaw};
-ghost use Rattle.cluster_open.specs.Laws.{CanBeRun};
+ghost use Rattle.cluster_open.specs.Laws.{CanBeRun, TextTells};
 
 /// A law of what inputs say in each mode: their fault is a bad row exactly where that row breaks a rule and no row before it
 /// does, and a block exactly where no row breaks a rule and that is the first block past a limit; and else they say an opening
@@ -17,4 +17,10 @@ pub fn first_bad_row_law()
 #[tactic(auto, using(crate::proofs::InputFacts::can_be_run))]
 pub fn openings_can_be_opened()
     ensures { (mode : Mode) (octets : List ℕ) → CanBeRun mode octets }
+{}
+
+/// A law of printed texts in each mode: a text that reports the script of an input has one list of replies. Of those that the
+/// model allows, on whatever number of lanes, no two are printed the same. The call does nothing.
+pub fn one_text_one_run()
+    ensures { (mode : Mode) (octets : List ℕ) → TextTells mode octets }
 {}

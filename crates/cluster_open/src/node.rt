@@ -6,7 +6,7 @@ ghost use Rattle.partial_fib.specs.Fib.{fib_after};
 ghost use Rattle.partial_fib.specs.Store.{state_of};
 ghost use Rattle.replica_shard.specs.Shard.{shard_after};
 ghost use Rattle.replica_shard.specs.Store.{shard_state_of};
-ghost use Rattle.replay_model.specs.State.{owners_in};
+ghost use Rattle.flow_types.specs.Size.{owners_in};
 ghost use Rattle.cluster_open.specs.Opened.{AreOpened, IsOpenedNode};
 
 use crate::dealing::deal;
@@ -59,7 +59,7 @@ fn tables(alloc: Global, plans: &[ShardPlan]) -> Result<Vec<Table>, OutOfMemory>
     Ok(tables)
 }
 
-/// The node's FIB of each of so many owners.
+/// The node's FIB of each of the first owners.
 fn fibs(
     alloc: Global,
     shape: Shape,

@@ -2,13 +2,12 @@
 
 ghost use Rattle.std.specs.Prelude.{◌≡◌, ◌≤◌, [], None, IfErr, IfOk, OnOk, map};
 ghost use Rattle.flow_types.specs.Map.{AreDistinct};
-ghost use Rattle.flow_types.specs.Size.{IsShape};
+ghost use Rattle.flow_types.specs.Size.{IsShape, owners_in};
 ghost use Rattle.group_search.specs.Build.{IsBuild, past_limit};
 ghost use Rattle.group_search.specs.Records.{AreHandled};
 ghost use Rattle.replica_shard.specs.Shard.{shard_after};
 ghost use Rattle.replica_shard.specs.Store.{shard_state_of};
 ghost use Rattle.cluster_open.specs.Limits.{IsCausedBy};
-ghost use Rattle.replay_model.specs.State.{owners_in};
 ghost use Rattle.cluster_open.specs.Opened.{AreOpened, AreOpenedNodes, AreOpenedSenders};
 
 use crate::fault::InputFault;
@@ -22,7 +21,7 @@ use replica_shard::ShardPlan;
 use setsep_build::build;
 use std::alloc::Global;
 use std::thread::Threads;
-use turn_sender::Sender;
+use turn_log::Sender;
 
 /// What stands in a cluster before its first event.
 #[derive(Drop)]
@@ -35,7 +34,7 @@ pub struct ClusterParts {
 
 /// The parts of the cluster of an opening, whose keys are distinct and whose nodes are the shape's, as `read_opening` gives it.
 ///
-/// The table is built by so many workers, 1..=64, which change nothing in it. The first block that is past a limit is
+/// The table is built by `workers` workers, 1..=64, which change nothing in it. The first block that is past a limit is
 /// the fault.
 pub fn open_parts<R: Threads + Sync>(
     rt: &R,

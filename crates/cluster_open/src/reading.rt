@@ -5,7 +5,7 @@ ghost use Rattle.csv_rows.specs.Rows.{rows};
 ghost use Rattle.flow_reader.specs.Fit.{IsFit};
 ghost use Rattle.flow_types.specs.Input.{most_octets};
 ghost use Rattle.cluster_open.specs.Input.{fault_in};
-ghost use Rattle.cluster_open.specs.Laws.{IsScriptOf};
+ghost use Rattle.packet_reader.specs.Form.{IsScriptOf};
 ghost use Rattle.cluster_open.specs.Limits.{named_fault};
 ghost use Rattle.cluster_open.specs.Reading.{IsReadFrom};
 
@@ -25,7 +25,7 @@ pub struct InputRows {
 }
 
 /// Reads all rows of an input, whose script is of this mode. The fault is the first row that breaks a rule.
-#[tactic(auto, using(crate::proofs::KeyRanges::script_formed), unfolding(crate::specs::Input::input_in))]
+#[tactic(auto, using(packet_reader::proofs::Forms::scripts_are_formed), unfolding(crate::specs::Input::input_in))]
 pub fn read_rows(alloc: Global, bytes: &[u8], mode: Mode) -> Result<InputRows, InputFault>
     requires { length bytes.now ≤ most_octets }
     ensures read { IfOk result (λ input. IsReadFrom mode bytes.now input.opening input.script.items) }

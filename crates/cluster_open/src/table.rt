@@ -1,7 +1,8 @@
-ghost use Rattle.std.specs.Prelude.{◌≡◌, ◌≢◌, ◌↔◌, ◌<◌, ◌≤◌, ◌+◌, ◌%◌, ℕ, IfOk, OnErr, OnOk, IsErrOf, length};
+ghost use Rattle.std.specs.Prelude.{◌≡◌, ◌↔◌, ◌<◌, ◌+◌, ◌%◌, ℕ, IfOk, OnErr, OnOk, IsErrOf, length};
 ghost use Rattle.group_search.specs.Canon.{rows_in};
 ghost use Rattle.replica_shard.specs.declared.refused.ShardRefused.TheVariants.{Foreign, Repeat, Early, RowsFull};
-ghost use Rattle.replica_shard.specs.Message.{TableMessageFits};
+ghost use Rattle.delta_codec.specs.Turns.{IsEarly, IsForeign, IsRepeat};
+ghost use Rattle.delta_codec.specs.Messages.{TableMessageFits};
 ghost use Rattle.replica_shard.specs.Seats.{IsShardWriterOf, shard_taken};
 ghost use Rattle.replica_shard.specs.Shard.{free_rows, home_in_state, route_in_state, with_content};
 ghost use Rattle.replica_shard.specs.Store.{shard_state_of};
@@ -46,12 +47,11 @@ impl Table {
     pub fn apply(&mut self, message: &TableMessage) -> Result<(), ShardRefused>
         requires { TableMessageFits self.old.size message.now }
         ensures taken { OnOk result (shard_state_of self.new ≡ with_content (shard_state_of self.old) message.now) }
-        ensures foreign { (owner : ℕ) → IsErrOf result (Foreign owner) ↔
-            ((message.now.owner ≢ self.old.owner) × (owner ≡ message.now.owner)) }
+        ensures foreign { (owner : ℕ) → IsErrOf result (Foreign owner) ↔ IsForeign self.old.owner message.now.owner owner }
         ensures repeat { (have : ℕ) → IsErrOf result (Repeat have) ↔
-            ((message.now.owner ≡ self.old.owner) × (message.now.turn ≤ length self.old.list) × (have ≡ length self.old.list)) }
+            IsRepeat self.old.owner (length self.old.list) message.now.owner message.now.turn have }
         ensures early { (have : ℕ) → IsErrOf result (Early have) ↔
-            ((message.now.owner ≡ self.old.owner) × (length self.old.list + 1 < message.now.turn) × (have ≡ length self.old.list)) }
+            IsEarly self.old.owner (length self.old.list) message.now.owner message.now.turn have }
         ensures rows_full { (needed free : ℕ) → IsErrOf result (RowsFull needed free) ↔
             ((message.now.owner ≡ self.old.owner) × (message.now.turn ≡ length self.old.list + 1) ×
             (needed ≡ rows_in message.now.content) ×

@@ -1,4 +1,4 @@
-use crate::{InputFault, open_parts, read_rows, read_vec};
+use crate::{InputFault, one_text_one_run, open_parts, read_rows, read_vec};
 use flow_reader::MOST_OCTETS;
 use flow_types::{BadRow, Why};
 use packet_reader::Mode;
@@ -11,6 +11,7 @@ type Case = (&'static str, Mode, Result<usize, BadRow>);
 
 #[test]
 fn reads_a_script_in_its_mode(rt: HostRuntime) -> Result<(), Fail> {
+    one_text_one_run();
     let cases: [Case; 4] = [
         ("sync\ncarry,1,0,1,table\nend\n", Mode::Replay, Ok(2)),
         (

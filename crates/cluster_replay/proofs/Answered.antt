@@ -8,7 +8,7 @@ use Rattle.partial_fib.specs.Fib.{FibState}
 use Rattle.partial_fib.specs.Store.{FibStore, state_of}
 use Rattle.replica_shard.specs.Shard.{ShardState}
 use Rattle.replica_shard.specs.Store.{ShardStore, shard_state_of}
-use Rattle.replay_model.specs.declared.reply.Reply.TheVariants.{Applied, EarlyHave, RepeatHave}
+use Rattle.run_model.specs.declared.reply.Reply.TheVariants.{Applied, EarlyHave, RepeatHave}
 use Rattle.cluster_replay.specs.Cluster.{NodeState, NodeStore, fib_in, no_fib, no_shard, node_state_of, shard_in, taking_reply}
 use Rattle.cluster_replay.proofs.Carried.{reply_is, reply_of}
 

@@ -6,8 +6,9 @@ use Rattle.std.proofs.lemmas.Bool.{cases_eq, cases_lt, leb-false, leb-true, ltb-
 use Rattle.std.proofs.lemmas.List.{ext_get_or, get_or-map, get_or-set_other, get_or-set_same, length-map, length-set, set-get_or, set-set}
 use Rattle.packet_reader.specs.declared.event.Part.{Part}
 use Rattle.packet_reader.specs.declared.event.Part.TheVariants.{Fib, Table}
-use Rattle.replay_model.specs.Carrying.{after_carry, after_sync, nodes_by, turns_taken, with_taken}
-use Rattle.replay_model.specs.State.{Journals, Taken, journal_of, nothing_taken, owners_in, taken_by}
+use Rattle.run_model.specs.Carrying.{after_carry, after_sync, nodes_by, turns_taken, with_taken}
+use Rattle.flow_types.specs.Size.{owners_in}
+use Rattle.run_model.specs.State.{Journals, Taken, journal_of, nothing_taken, taken_by}
 use Rattle.cluster_replay.specs.Cluster.{IsSized, RunState, all_sent, with_nodes}
 use Rattle.cluster_replay.specs.Turn.{counts, with_turn, with_turns}
 use Rattle.cluster_replay.proofs.Carried.{reply_is, reply_of}

@@ -6,20 +6,19 @@ use Rattle.std.proofs.lemmas.Bool.{leb-false, ltb-false}
 use Rattle.std.proofs.lemmas.Bool.Decides.{nat_tests}
 use Rattle.std.proofs.lemmas.List.{get_or-map, length-set, map-set, set-get_or}
 use Rattle.flow_types.specs.declared.record.Flow.{Flow}
-use Rattle.flow_types.specs.Size.{Size}
+use Rattle.flow_types.specs.Size.{Size, owners_in}
 use Rattle.group_history.specs.declared.change.Change.{Change}
 use Rattle.delta_codec.specs.declared.message.FibMessage.{FibMessage}
 use Rattle.delta_codec.specs.declared.message.TableMessage.{TableMessage}
 use Rattle.packet_reader.specs.declared.event.Part.{Part}
 use Rattle.packet_reader.specs.declared.event.Part.TheVariants.{Fib, Table}
-use Rattle.replay_model.specs.Carrying.{after_carry, carry_reply, nodes_by, turns_taken, with_taken}
-use Rattle.replay_model.specs.State.{Journals, Taken, journal_of, nothing_taken, owners_in, taken_by}
-use Rattle.replay_model.specs.declared.reply.Reply.{Reply}
-use Rattle.replay_model.specs.declared.reply.Reply.TheVariants.{Applied, EarlyHave, RepeatHave}
+use Rattle.run_model.specs.Carrying.{after_carry, carry_reply, nodes_by, turns_taken, with_taken}
+use Rattle.run_model.specs.State.{Journals, Taken, journal_of, nothing_taken, taken_by}
+use Rattle.run_model.specs.declared.reply.Reply.{Reply}
+use Rattle.run_model.specs.declared.reply.Reply.TheVariants.{Applied, EarlyHave, RepeatHave}
 use Rattle.cluster_replay.specs.Cluster.{IsCluster, IsFibOf, IsNodeOf, IsTableOf, NodeState, after_fib, after_table, fib_in, journal_in, journals_in, no_node, no_sender, shard_in, taken_in, taking_reply}
-use Rattle.turn_sender.specs.Sender.{IsSenderOf, SenderState}
-use Rattle.turn_sender.specs.Sent.{IsFibMessageOf}
-use Rattle.replica_shard.specs.Message.{IsTableMessageOf}
+use Rattle.turn_log.specs.Sender.{IsSenderOf, SenderState}
+use Rattle.delta_codec.specs.Messages.{IsFibMessageOf, IsTableMessageOf}
 use Rattle.replica_shard.specs.Shard.{ShardState, with_content}
 use Rattle.partial_fib.specs.Fib.{with_turn}
 use Rattle.cluster_replay.proofs.NodeFacts.{each_set, set_fib, set_fib_taken, set_table, set_table_taken}

@@ -3,24 +3,22 @@ use Rattle.std.proofs.Common.{◌≡◌, ◌∙◌, ◌+◌, ◌<◌, ◌≤◌,
 use Rattle.std.proofs.lemmas.List.{get_or-map, get_or_default, get_or_past, length-map, map-set, set-get_or}
 use Rattle.std.specs.Prelude.{IfOk, OnErr, OnOk, Result, nat_lt}
 use Rattle.std.proofs.lemmas.Bool.Decides.{nat_tests}
-use Rattle.replay_model.specs.declared.reply.Reply.TheVariants.{Unsent}
+use Rattle.run_model.specs.declared.reply.Reply.TheVariants.{Unsent}
 use Rattle.flow_types.specs.declared.record.Flow.{Flow}
-use Rattle.flow_types.specs.Size.{Size}
+use Rattle.flow_types.specs.Size.{Size, owners_in}
 use Rattle.group_history.specs.declared.change.Change.{Change}
 use Rattle.delta_codec.specs.declared.message.FibMessage.{FibMessage}
 use Rattle.delta_codec.specs.declared.message.TableMessage.{TableMessage}
 use Rattle.packet_reader.specs.declared.event.Part.{Part}
-use Rattle.replay_model.specs.Carrying.{after_carry, carry_reply, nodes_by, turns_taken}
-use Rattle.replay_model.specs.declared.reply.Reply.{Reply}
-use Rattle.replay_model.specs.State.{Taken, journal_of, owners_in}
+use Rattle.run_model.specs.Carrying.{after_carry, carry_reply, nodes_by, turns_taken}
+use Rattle.run_model.specs.declared.reply.Reply.{Reply}
+use Rattle.run_model.specs.State.{Taken, journal_of}
 use Rattle.cluster_replay.specs.Cluster.{IsCluster, IsFibOf, IsTableOf, NodeState, NodeStore, RunState, after_fib, after_table, cluster_of, fib_in, journal_in, journals_in, no_node, no_sender, node_state_of, shard_in, taken_in, taking_reply, with_nodes}
-use Rattle.turn_sender.specs.Sender.{IsSenderOf, SenderState, changes_in}
-use Rattle.turn_sender.specs.Sent.{IsFibMessageOf}
-use Rattle.replica_shard.specs.Message.{IsTableMessageOf, TableMessageFits}
+use Rattle.turn_log.specs.Sender.{IsSenderOf, SenderState, changes_in}
+use Rattle.delta_codec.specs.Messages.{IsFibMessageOf, IsTableMessageOf, TableMessageFits, FibMessageFits}
 use Rattle.replica_shard.specs.Shard.{ShardState, free_rows}
 use Rattle.replica_shard.specs.Store.{shard_state_of}
 use Rattle.partial_fib.specs.Fib.{FibState}
-use Rattle.partial_fib.specs.Message.{FibMessageFits}
 use Rattle.partial_fib.specs.Store.{state_of}
 use Rattle.group_search.specs.Canon.{rows_in}
 use Rattle.packet_reader.specs.declared.event.Part.TheVariants.{Fib, Table}

@@ -2,12 +2,12 @@
 use Rattle.std.proofs.Common.{◌≡◌, ◌∙◌, ◌<◌, ◌≤◌, ℕ, Bool, List, length, map, get_or, sym, subst, arith}
 use Rattle.std.proofs.lemmas.List.{get_or_default}
 use Rattle.flow_types.specs.declared.record.Flow.{Flow}
-use Rattle.flow_types.specs.Size.{Size}
+use Rattle.flow_types.specs.Size.{Size, owners_in}
 use Rattle.group_history.specs.declared.change.Change.{Change}
 use Rattle.delta_codec.specs.declared.message.TableMessage.{TableMessage}
-use Rattle.replica_shard.specs.Message.{IsTableMessageOf, TableMessageFits}
-use Rattle.replay_model.specs.State.{journal_of, owners_in}
-use Rattle.turn_sender.specs.Sender.{IsSenderOf, SenderState, changes_in}
+use Rattle.delta_codec.specs.Messages.{IsTableMessageOf, TableMessageFits}
+use Rattle.run_model.specs.State.{journal_of}
+use Rattle.turn_log.specs.Sender.{IsSenderOf, SenderState, changes_in}
 use Rattle.cluster_replay.specs.Cluster.{IsCluster, NodeStore, RunState, cluster_of, journal_in, journals_in, no_sender, node_state_of}
 use Rattle.cluster_replay.specs.Turn.{IsTurnsTableMessage}
 use Rattle.cluster_replay.proofs.Carried.{journal_is, owner_low}

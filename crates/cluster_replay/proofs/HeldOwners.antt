@@ -4,18 +4,18 @@ use Rattle.std.specs.Prelude.{IfOk, IfSome, OnErr, OnOk, Result}
 use Rattle.std.specs.Result.{result_ok}
 use Rattle.std.proofs.lemmas.List.{get_or_default, set-get_or}
 use Rattle.flow_types.specs.declared.record.Flow.{Flow}
-use Rattle.flow_types.specs.Size.{Size}
-use Rattle.rib_owner.specs.declared.refused.UpdateRefused.{UpdateRefused}
-use Rattle.rib_owner.specs.declared.refused.UpdateRefused.TheVariants.{Spent, Absent, BlockFull, RowsFull, OutOfMemory}
-use Rattle.rib_owner.specs.declared.update.Update.{Update}
-use Rattle.rib_owner.specs.Acceptance.{updated_key}
+use Rattle.flow_types.specs.Size.{Size, owners_in}
+use Rattle.group_history.specs.declared.refused.UpdateRefused.{UpdateRefused}
+use Rattle.group_history.specs.declared.refused.UpdateRefused.TheVariants.{Spent, Absent, BlockFull, RowsFull, OutOfMemory}
+use Rattle.group_history.specs.declared.update.Update.{Update}
+use Rattle.group_history.specs.Acceptance.{updated_key}
 use Rattle.rib_owner.specs.Turn.{node_entered}
 use Rattle.group_search.specs.Owned.{IsOwned}
-use Rattle.turn_sender.proofs.Accepting.{answers_known, as_seen, stands_known}
-use Rattle.replay_model.specs.State.{Journals, owners_in}
-use Rattle.replay_model.specs.Updates.{after_update, update_reply}
-use Rattle.replay_model.specs.declared.reply.Reply.{Reply}
-use Rattle.turn_sender.specs.Sender.{AnswersSender, IsSenderOf, SenderState, changes_in}
+use Rattle.turn_log.proofs.Accepting.{answers_known, as_seen, stands_known}
+use Rattle.run_model.specs.State.{Journals}
+use Rattle.run_model.specs.Updates.{after_update, update_reply}
+use Rattle.run_model.specs.declared.reply.Reply.{Reply}
+use Rattle.turn_log.specs.Sender.{AnswersSender, IsSenderOf, SenderState, changes_in}
 use Rattle.cluster_replay.specs.Cluster.{IsCluster, NodeStore, RunState, cluster_of, journals_in, no_sender, node_state_of, told_of, with_journals}
 use Rattle.cluster_replay.proofs.Held.{held}
 use Rattle.cluster_replay.proofs.Owners.{Updated, owner_has, owner_is, updated}

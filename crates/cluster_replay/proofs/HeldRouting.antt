@@ -4,21 +4,19 @@ use Rattle.std.proofs.lemmas.List.{length-map}
 use Rattle.flow_types.specs.declared.key.FlowKey.{FlowKey}
 use Rattle.flow_types.specs.declared.record.Flow.{Flow}
 use Rattle.flow_types.specs.declared.record.Record.{Record}
-use Rattle.flow_types.specs.Key.{number}
-use Rattle.flow_types.specs.Size.{Size}
+use Rattle.flow_types.specs.Key.{number, IsKeyValue}
+use Rattle.flow_types.specs.Size.{Size, owners_in}
 use Rattle.hash_family.specs.Hash.{place}
 use Rattle.hash_family.specs.declared.bucket.Place.{Place}
 use Rattle.group_search.specs.Home.{Home, home}
-use Rattle.delta_codec.specs.Values.{IsKeyValue}
 use Rattle.replica_shard.specs.Shard.{ShardState, home_in_state, route_in_state}
 use Rattle.replica_shard.specs.Store.{shard_state_of}
 use Rattle.replica_shard.specs.declared.routing.Route.{Route}
 use Rattle.partial_fib.specs.Fib.{FibState}
 use Rattle.partial_fib.specs.Store.{FibStore, state_of}
-use Rattle.replay_model.specs.Packets.{answer_of, packet_reply}
-use Rattle.replay_model.specs.declared.reply.Reply.TheVariants.{Nowhere}
-use Rattle.turn_sender.specs.Sender.{SenderState}
-use Rattle.replay_model.specs.State.{owners_in}
+use Rattle.run_model.specs.Packets.{answer_of, packet_reply}
+use Rattle.run_model.specs.declared.reply.Reply.TheVariants.{Nowhere}
+use Rattle.turn_log.specs.Sender.{SenderState}
 use Rattle.cluster_replay.specs.Cluster.{IsCluster, IsFibOf, IsTableOf, NodeState, NodeStore, RunState, cluster_of, fib_in, journal_in, no_node, node_state_of, shard_in}
 use Rattle.cluster_replay.proofs.Answered.{fib_here}
 use Rattle.cluster_replay.proofs.Held.{held, node_here, node_there}

@@ -11,5 +11,6 @@ pub mod Routing
 pub mod HeldRouting
 pub mod BroughtUp
 pub mod Replied
+pub mod Stays
 pub mod Sized
 pub mod Opened

@@ -3,12 +3,12 @@ use Rattle.std.proofs.Common.{◌≡◌, ◌≢◌, ◌∙◌, ◌<◌, ℕ, Lis
 use Rattle.std.proofs.lemmas.Bool.{cases_eq}
 use Rattle.std.proofs.lemmas.List.{get_or-set_other, get_or-set_same, length-set}
 use Rattle.flow_types.specs.declared.record.Flow.{Flow}
-use Rattle.flow_types.specs.Size.{Size}
+use Rattle.flow_types.specs.Size.{Size, owners_in}
 use Rattle.group_history.specs.declared.change.Change.{Change}
 use Rattle.packet_reader.specs.declared.event.Part.TheVariants.{Fib, Table}
 use Rattle.partial_fib.specs.Fib.{FibState}
-use Rattle.replay_model.specs.Carrying.{with_taken}
-use Rattle.replay_model.specs.State.{Taken, owners_in}
+use Rattle.run_model.specs.Carrying.{with_taken}
+use Rattle.run_model.specs.State.{Taken}
 use Rattle.replica_shard.specs.Shard.{ShardState}
 use Rattle.cluster_open.specs.Opened.{by_number}
 use Rattle.cluster_replay.specs.Cluster.{IsFibOf, IsNodeOf, IsTableOf, NodeState, fib_in, no_fib, no_shard, shard_in, taken_in}

@@ -4,14 +4,14 @@ use Rattle.std.proofs.lemmas.Bool.{cases_lt}
 use Rattle.std.proofs.lemmas.List.{ext_get_or, get_or-map, get_or-replicate, get_or_past, length-map, length-replicate}
 use Rattle.std.proofs.lemmas.Option.{slice_get_cases}
 use Rattle.flow_types.specs.declared.record.Flow.{Flow}
-use Rattle.flow_types.specs.Size.{IsShape, Size}
+use Rattle.flow_types.specs.Size.{IsShape, Size, owners_in}
 use Rattle.group_search.specs.Records.{AreHandled}
 use Rattle.group_history.specs.declared.change.Change.{Change}
 use Rattle.partial_fib.specs.Fib.{FibState, fib_after}
 use Rattle.replica_shard.specs.Shard.{ShardState, shard_after}
-use Rattle.replay_model.specs.Replaying.{fresh, fresh_node}
-use Rattle.replay_model.specs.State.{ClusterState, Journals, Taken, owners_in}
-use Rattle.turn_sender.specs.Sender.{SenderState, changes_in}
+use Rattle.run_model.specs.Replaying.{fresh, fresh_node}
+use Rattle.run_model.specs.State.{ClusterState, Journals, Taken}
+use Rattle.turn_log.specs.Sender.{SenderState, changes_in}
 use Rattle.cluster_open.specs.Opened.{AreOpenedNodes, AreOpenedSenders, IsOpenedNode, by_number}
 use Rattle.cluster_open.specs.declared.node.NodeParts.{NodeParts}
 use Rattle.cluster_replay.specs.Cluster.{AreFreshNodes, GoToNodes, IsCluster, IsFibOf, IsNodeOf, IsTableOf, NodeState, NodeStore, cluster_of, fib_in, journal_in, no_fib, no_node, no_sender, no_shard, node_of_parts, node_state_of, shard_in, taken_in}

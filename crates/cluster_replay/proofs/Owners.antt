@@ -5,25 +5,27 @@ use Rattle.std.proofs.Math.Nat.{mod-lt}
 use Rattle.std.proofs.lemmas.Bool.{cases_eq}
 use Rattle.std.proofs.lemmas.List.{get_or-set_other, get_or-set_same, length-set, set-get_or}
 use Rattle.std.proofs.lemmas.List.Elements.{All-push}
+use mathlib.Core.List.{IsPrefix}
+use Rattle.flow_types.proofs.Prefixes.{prefix_self, prefix_more}
 use Rattle.flow_types.specs.declared.record.Flow.{Flow}
-use Rattle.flow_types.specs.Size.{Size}
+use Rattle.flow_types.specs.Size.{Size, owners_in}
 use Rattle.hash_family.specs.Hash.{place}
 use Rattle.group_search.specs.Home.{home}
 use Rattle.group_history.specs.declared.change.Change.{Change}
-use Rattle.rib_owner.specs.declared.refused.UpdateRefused.{UpdateRefused}
-use Rattle.rib_owner.specs.declared.refused.UpdateRefused.TheVariants.{Spent, Absent, BlockFull, RowsFull, OutOfMemory}
-use Rattle.rib_owner.specs.declared.update.Update.{Update}
-use Rattle.rib_owner.specs.declared.update.Update.TheVariants.{Set, Del}
-use Rattle.rib_owner.specs.Acceptance.{change_of, grounds, refusal, updated_key}
+use Rattle.group_history.specs.declared.refused.UpdateRefused.{UpdateRefused}
+use Rattle.group_history.specs.declared.refused.UpdateRefused.TheVariants.{Spent, Absent, BlockFull, RowsFull, OutOfMemory}
+use Rattle.group_history.specs.declared.update.Update.{Update}
+use Rattle.group_history.specs.declared.update.Update.TheVariants.{Set, Del}
+use Rattle.group_history.specs.Acceptance.{change_of, grounds, refusal, updated_key}
 use Rattle.rib_owner.specs.Turn.{node_entered}
 use Rattle.replica_shard.specs.Shard.{shard_after}
 use Rattle.partial_fib.specs.Fib.{fib_after}
-use Rattle.replay_model.specs.State.{ClusterOpening, journal_of, owners_in}
-use Rattle.replay_model.specs.Updates.{after_update, journals_by, reply_by, update_owner, update_reply, verdict}
-use Rattle.replay_model.specs.declared.reply.Reply.{Reply}
-use Rattle.replay_model.specs.declared.reply.Reply.TheVariants.{Accepted, Refused}
-use Rattle.replay_model.proofs.Cuts.{Grows, grown-length, grown-take, grows-by, grows-not}
-use Rattle.turn_sender.specs.Sender.{AnswersSender, IsSenderOf, SenderState, changes_in}
+use Rattle.run_model.specs.State.{ClusterOpening, journal_of}
+use Rattle.run_model.specs.Updates.{after_update, journals_by, reply_by, update_owner, update_reply, verdict}
+use Rattle.run_model.specs.declared.reply.Reply.{Reply}
+use Rattle.run_model.specs.declared.reply.Reply.TheVariants.{Accepted, Refused}
+use Rattle.run_model.proofs.Cuts.{grown-length, grown-take}
+use Rattle.turn_log.specs.Sender.{AnswersSender, IsSenderOf, SenderState, changes_in}
 use Rattle.cluster_replay.specs.Cluster.{GoToNodes, IsCluster, IsFibOf, IsNodeOf, IsTableOf, NodeState, fib_in, journal_in, journals_in, no_node, no_sender, shard_in, told_of}
 use Rattle.cluster_replay.proofs.Carried.{journal_is, owner_low}
 use Rattle.cluster_replay.proofs.NodeFacts.{each_set}
@@ -31,7 +33,7 @@ use Rattle.cluster_open.proofs.Numbered.{set_number}
 
 -- ---- journals that grow
 
-module _ (size : Size) (flows : List Flow) (before after : ℕ → List Change) (grows : (owner : ℕ) → owner < owners_in size → Grows (before owner) (after owner))
+module _ (size : Size) (flows : List Flow) (before after : ℕ → List Change) (grows : (owner : ℕ) → owner < owners_in size → IsPrefix (before owner) (after owner))
     (number : ℕ) (node : NodeState) (is : IsNodeOf size flows before number node) where
   table_grows : (owner : ℕ) → owner < owners_in size → IsTableOf size owner flows (after owner) (shard_in node owner)
   table_grows owner has =
@@ -72,15 +74,15 @@ module _ (size : Size) (flows : List Flow) (owners : List SenderState) (nodes : 
   journal_other : (other : ℕ) → other ≢ owner → journal_in (set owners owner new) other ≡ journal_in owners other
   journal_other other away = ap changes_in (get_or-set_other owners owner other new no_sender away)
 
-  all_grow : Grows (changes_in old) (changes_in new) → (other : ℕ) → Grows (journal_in owners other) (journal_in (set owners owner new) other)
+  all_grow : IsPrefix (changes_in old) (changes_in new) → (other : ℕ) → IsPrefix (journal_in owners other) (journal_in (set owners owner new) other)
   all_grow grows other =
       ⊎_elim
       (λ (here : other ≡ owner).
-      subst (λ (o : ℕ). Grows (journal_in owners o) (journal_in (set owners owner new) o)) (sym here) (subst (Grows (changes_in old)) (sym journal_new) grows))
-      (λ (away : other ≢ owner). subst (Grows (journal_in owners other)) (sym (journal_other other away)) (grows-not (journal_in owners other)))
+      subst (λ (o : ℕ). IsPrefix (journal_in owners o) (journal_in (set owners owner new) o)) (sym here) (subst (IsPrefix (changes_in old)) (sym journal_new) grows))
+      (λ (away : other ≢ owner). subst (IsPrefix (journal_in owners other)) (sym (journal_other other away)) (prefix_self (journal_in owners other)))
       (cases_eq other owner)
 
-  pub set_owner : IsSenderOf size owner flows new → GoToNodes size.nodes (changes_in new) → Grows (changes_in old) (changes_in new) → IsCluster size flows (set owners owner new) nodes
+  pub set_owner : IsSenderOf size owner flows new → GoToNodes size.nodes (changes_in new) → IsPrefix (changes_in old) (changes_in new) → IsCluster size flows (set owners owner new) nodes
   set_owner sender to_nodes grows = record {
     shape = is.shape;
     handled = is.handled;
@@ -153,7 +155,7 @@ module _ (size : Size) (flows : List Flow) (owners : List SenderState) (nodes : 
       stands =
           set_owner size flows owners nodes is owner_is owner_has new sender_is
           (subst (GoToNodes size.nodes) (sym after) (All-push (λ (c : Change). IfSome c.to (λ to. to.0 < size.nodes)) (changes_in sender) (change_of size flows update) (is.to_nodes owner_is owner_has) (goes update node)))
-          (subst (Grows (changes_in sender)) (sym after) (grows-by (changes_in sender) (change_of size flows update ∷ [])));
+          (subst (IsPrefix (changes_in sender)) (sym after) (prefix_more (changes_in sender) (change_of size flows update ∷ [])));
       replies = λ reply said. sym (reply_for None none ∙ ap (Accepted owner_is) (sym next) ∙ some_is _ _ said);
       goes_on = λ reply said.
           set_journals size flows owners nodes is owner_is owner_has new

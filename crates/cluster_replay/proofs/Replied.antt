@@ -6,13 +6,13 @@ use Rattle.packet_reader.specs.declared.event.Event.{Event}
 use Rattle.packet_reader.specs.declared.event.Event.TheVariants.{Set, Del, Packet, Carry, Sync}
 use Rattle.packet_reader.specs.declared.mode.Mode.TheVariants.{Replay}
 use Rattle.packet_reader.specs.Form.{IsFormed}
-use Rattle.replay_model.specs.declared.reply.Reply.{Reply}
-use Rattle.replay_model.specs.Laws.{state_after_all}
-use Rattle.replay_model.specs.Replaying.{fresh, replayed_with_updates, replies_from, reply_in, state_after}
-use Rattle.replay_model.specs.State.{ClusterOpening, ClusterState}
+use Rattle.run_model.specs.declared.reply.Reply.{Reply}
+use Rattle.run_model.specs.Laws.{state_after_all}
+use Rattle.run_model.specs.Replaying.{fresh, replayed_with_updates, replies_from, reply_in, state_after}
+use Rattle.run_model.specs.State.{ClusterOpening, ClusterState}
 
 -- no event changes the opening
-opened_stays : (state : ClusterState) (event : Event) → (state_after state event).opened ≡ state.opened
+pub opened_stays : (state : ClusterState) (event : Event) → (state_after state event).opened ≡ state.opened
 unfolding state_after
 opened_stays state (Set flow) = refl
 opened_stays state (Del key) = refl

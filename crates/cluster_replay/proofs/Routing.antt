@@ -7,28 +7,27 @@ use Rattle.std.proofs.lemmas.List.Elements.{All-filter, All-head, All-push, All-
 use Rattle.flow_types.specs.declared.key.FlowKey.{FlowKey}
 use Rattle.flow_types.specs.declared.record.Flow.{Flow}
 use Rattle.flow_types.specs.declared.record.Record.{Record}
-use Rattle.flow_types.specs.Key.{number}
+use Rattle.flow_types.specs.Key.{number, IsKeyValue}
 use Rattle.flow_types.specs.Map.{put, without}
-use Rattle.flow_types.specs.Size.{Size}
+use Rattle.flow_types.specs.Size.{Size, owners_in}
 use Rattle.hash_family.specs.Hash.{place}
 use Rattle.block_layout.specs.Candidate.{candidate}
 use Rattle.group_search.specs.Home.{Home, choices, group_of, home, is_home, opening}
 use Rattle.group_search.specs.Records.{AreHandled, content_of}
 use Rattle.group_history.specs.declared.change.Change.{Change}
 use Rattle.group_history.specs.Change.{concerns, flow_to, step, with_at}
-use Rattle.group_history.specs.History.{changed, now}
+use Rattle.group_history.specs.History.{changed, now, map_now, content_after}
 use Rattle.group_history.specs.Journal.{concerning}
-use Rattle.delta_codec.specs.Values.{IsKeyValue}
-use Rattle.rib_owner.specs.Rib.{map_now}
-use Rattle.replica_shard.specs.Routed.{decoded}
-use Rattle.replica_shard.specs.Shard.{ShardState, content_after, home_in_state, is_owned_block, is_owned_group, route_in_state}
-use Rattle.replica_shard.proofs.Below.{decoded_below}
+use Rattle.group_search.specs.Decoding.{decoded}
+use Rattle.replica_shard.specs.Shard.{ShardState, home_in_state, is_owned_block, is_owned_group, route_in_state}
+use Rattle.group_search.proofs.NodesBelow.{decoded_below}
 use Rattle.partial_fib.specs.Fib.{FibState, record_after}
-use Rattle.replay_model.specs.Packets.{answer_of, fib_record_after, first_changes, packet_reply, reply_sent, routed_after, version_after}
-use Rattle.replay_model.specs.State.{ClusterOpening, Taken, fib_turns, home_of_key, journal_of, owner_of_group, owners_in, table_turns}
-use Rattle.replay_model.specs.declared.reply.Reply.TheVariants.{Nowhere}
-use Rattle.replay_model.proofs.Parts.{record_there}
-use Rattle.turn_sender.specs.Sender.{SenderState}
+use Rattle.partial_fib.proofs.MapAnswers.{record_by_map}
+use Rattle.run_model.specs.Packets.{answer_of, fib_record_after, first_changes, packet_reply, reply_sent, version_after}
+use Rattle.run_model.specs.State.{ClusterOpening, Taken, fib_turns, home_of_key, journal_of, owner_of_group, table_turns}
+use Rattle.run_model.specs.declared.reply.Reply.TheVariants.{Nowhere}
+use Rattle.run_model.proofs.Parts.{sends_there, sent_after}
+use Rattle.turn_log.specs.Sender.{SenderState}
 use Rattle.cluster_replay.specs.Cluster.{GoToNodes, GoesTo, IsCluster, IsFibOf, IsTableOf, NodeState, fib_in, journal_in, journals_in, no_node, shard_in, taken_in}
 use Rattle.cluster_replay.proofs.Carried.{fib_turns_is, journal_is, owner_low, table_turns_is}
 use Rattle.cluster_replay.proofs.Owners.{owner_of_block}
@@ -78,6 +77,11 @@ module _ (size : Size) (flows : List Flow) (owners : List SenderState) (nodes : 
   unfolding home
   owner_same = refl
 
+  -- the record that a node's FIB has of the key
+  record_there : (node : ℕ) (changes : List Change) → record_after size node owner flows changes (number key) ≡ fib_record_after opened changes node key
+  unfolding fib_record_after map_now
+  record_there node changes = record_by_map size node owner flows changes key value owner_same
+
   group_low : (home_of_key opened key).group < 64
   unfolding home candidate
   group_low = omega arith
@@ -124,19 +128,19 @@ module _ (size : Size) (flows : List Flow) (owners : List SenderState) (nodes : 
     pub version_there : (route_in_state shard (place size.blocks key) key).version ≡ version_after opened there key
     version_there = ap shard.versions home_there ∙ ap (λ (s : ShardState). s.versions (home_of_key opened key)) table_is.stands
 
-    pub node_there : (route_in_state shard (place size.blocks key) key).node ≡ routed_after opened there key
-    unfolding routed_after
+    pub node_there : (route_in_state shard (place size.blocks key) key).node ≡ sent_after opened there key
     node_there =
         ap (λ (s : ShardState). decoded s.size key (shard.records (home_in_state shard (place size.blocks key)))) table_is.stands
         ∙ ap (decoded size key) (ap shard.records home_there ∙ content_there)
+        ∙ sends_there opened there key
 
     pub node_low : (node : ℕ) → (route_in_state shard (place size.blocks key) key).node ≡ Some node → node < size.nodes
-    unfolding routed_after
-    node_low node sent = decoded_below size (map_now size flows there (home_of_key opened key)) key node (handled_after shard.taken) (sym node_there ∙ sent)
+    node_low node sent =
+        decoded_below size (map_now size flows there (home_of_key opened key)) key node (handled_after shard.taken) (sends_there opened there key ∙ sym node_there ∙ sent)
 
     -- the model's reply, by the first changes that the ingress has
     model_reply : packet_reply opened (journals_in size owners) takens ingress key
-        ≡ reply_sent opened there (λ (node : ℕ). take (fib_turns takens node owner) journal) key (routed_after opened there key)
+        ≡ reply_sent opened there (λ (node : ℕ). take (fib_turns takens node owner) journal) key (sent_after opened there key)
     unfolding packet_reply
     model_reply =
         let turns : table_turns takens ingress (owner_of_group opened (home_of_key opened key)) ≡ shard.taken =
@@ -147,8 +151,8 @@ module _ (size : Size) (flows : List Flow) (owners : List SenderState) (nodes : 
         ≡ (λ (node : ℕ). take (fib_turns takens node owner) journal) =
         λ i node. (ap (first_changes opened (journals_in size owners) key) (ap (fib_turns takens node) owner_same) ∙ first_is (fib_turns takens node owner)) i in
         ap (λ (changes : List Change). reply_sent opened changes (λ (node : ℕ). first_changes opened (journals_in size owners) key (fib_turns takens node (owner_of_group opened (home_of_key opened key)))) key
-        (routed_after opened changes key)) seen
-        ∙ ap (λ (here : ℕ → List Change). reply_sent opened there here key (routed_after opened there key)) told
+        (sent_after opened changes key)) seen
+        ∙ ap (λ (here : ℕ → List Change). reply_sent opened there here key (sent_after opened there key)) told
 
     pub goes_nowhere : (route_in_state shard (place size.blocks key) key).node ≡ None
         → Nowhere (route_in_state shard (place size.blocks key) key).version ≡ packet_reply opened (journals_in size owners) takens ingress key
@@ -176,7 +180,7 @@ module _ (size : Size) (flows : List Flow) (owners : List SenderState) (nodes : 
           let version : fib.versions (home_of_key opened key) ≡ version_after opened here key = ap (λ (f : FibState). f.versions (home_of_key opened key)) fib_is.stands in
           let info : fib.records (number key) ≡ fib_record_after opened here node key =
           ap (λ (f : FibState). f.records (number key)) fib_is.stands
-          ∙ ap (λ (of : ℕ). record_after size node of flows here (number key)) (sym owner_same) ∙ record_there opened here key value node in
+          ∙ record_there node here in
           rw (version_there, version, info)
           (ap (λ (turns : ℕ). answer_of node (version_after opened there key) (version_after opened (take turns journal) key) (fib_record_after opened (take turns journal) node key)) (sym turns_there)
           ∙ ap (reply_sent opened there (λ (node : ℕ). take (fib_turns takens node owner) journal) key) (sym sent ∙ node_there)

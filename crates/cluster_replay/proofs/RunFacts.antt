@@ -1,25 +1,20 @@
 -- What an input comes to is a run's.
 use Rattle.std.proofs.Common.{◌≡◌, ◌∙◌, ℕ, List, Option, None, Some, Result, Ok, Err, refl, sym, ap, subst}
-use Rattle.std.specs.Prelude.{All, IfSome}
+use Rattle.std.specs.Prelude.{IfSome}
 use Rattle.std.specs.Result.{result_err}
-use Rattle.std.proofs.lemmas.List.Elements.{All-weaker}
 use Rattle.csv_rows.specs.Rows.{rows}
-use Rattle.flow_types.specs.Size.{Size}
-use Rattle.packet_reader.specs.declared.event.Event.{Event}
 use Rattle.packet_reader.specs.declared.mode.Mode.TheVariants.{Replay}
-use Rattle.replay_model.specs.declared.reply.Reply.{Reply}
-use Rattle.replay_model.specs.Allowed.{Allowed}
-use Rattle.replay_model.specs.Laws.{IsRowOfReplay}
-use Rattle.replay_model.proofs.NeverBack.{no_lane_goes_back}
-use Rattle.replay_model.proofs.OneVersion.{one_version_tells}
-use Rattle.replay_model.proofs.Records.{replays_go_by_records}
-use Rattle.replay_model.proofs.Replays.{replays_are_allowed}
+use Rattle.run_model.specs.declared.reply.Reply.{Reply}
+use Rattle.run_model.specs.Allowed.{Allowed}
+use Rattle.run_model.proofs.NeverBack.{no_lane_goes_back}
+use Rattle.run_model.proofs.OneVersion.{one_version_tells}
+use Rattle.run_model.proofs.Records.{replays_go_by_records}
+use Rattle.run_model.proofs.Replays.{replays_are_allowed}
 use Rattle.run_report.specs.Report.{AreOfTheirEvents, report}
 use Rattle.run_report.proofs.EventKinds.{allowed_are_of_their_events}
 use Rattle.cluster_open.specs.declared.fault.InputFault.{InputFault}
 use Rattle.cluster_open.specs.FirstBad.{CanRun}
 use Rattle.cluster_open.specs.Input.{Input, fault_in, input_in, opened}
-use Rattle.cluster_open.specs.Laws.{IsRowOf, IsScriptOf}
 use Rattle.cluster_open.specs.Runs.{AreRunReplies, IsRunOf}
 use Rattle.cluster_open.proofs.FirstBadFacts.{input_law}
 use Rattle.cluster_open.proofs.InputFacts.{can_be_run}
@@ -28,16 +23,12 @@ use Rattle.cluster_replay.specs.Outcome.{Replies, made_of, outcome, outcome_by, 
 
 -- ---- the replies of a replay
 
--- the events of a script have the form of a replay's rows
-are-formed : (shape : Size) (script : List Event) → IsScriptOf Replay shape script → All (IsRowOfReplay shape) script
-are-formed shape script is = All-weaker (IsRowOf Replay shape) (IsRowOfReplay shape) (λ event row. record { formed = row.formed; value = row.value }) script is.rows
-
 module _ (octets : List ℕ) (input : Input) (runs : CanRun Replay (rows octets) input) where
   allowed : Allowed (opened input.opening) 1 input.script (replayed_input input)
   allowed =
       let law = can_be_run Replay octets in
       replays_are_allowed (opened input.opening) input.script 1 (law.opens input.opening runs.readable.opens runs.within)
-      (are-formed input.opening.shape input.script (law.formed input.opening input.script runs.readable))
+      (law.formed input.opening input.script runs.readable).rows
 
   -- they are a run's
   replied : AreRunReplies Replay 1 (opened input.opening) input.script (replayed_input input)

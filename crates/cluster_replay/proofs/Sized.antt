@@ -3,16 +3,16 @@ use Rattle.std.proofs.Common.{◌≡◌, ◌∙◌, ◌<◌, ◌≤◌, ℕ, Boo
 use Rattle.std.proofs.lemmas.Bool.{cases_lt}
 use Rattle.std.proofs.lemmas.List.{get_or_default, get_or_past, length-map}
 use Rattle.flow_types.specs.declared.record.Flow.{Flow}
-use Rattle.flow_types.specs.Size.{Size}
+use Rattle.flow_types.specs.Size.{Size, owners_in}
 use Rattle.packet_reader.specs.declared.event.Part.{Part}
 use Rattle.packet_reader.specs.declared.event.Part.TheVariants.{Fib, Table}
 use Rattle.replica_shard.specs.Store.{ShardStore, shard_state_of}
 use Rattle.partial_fib.specs.Store.{FibStore, state_of}
 use Rattle.partial_fib.specs.Fib.{FibState}
 use Rattle.replica_shard.specs.Shard.{ShardState}
-use Rattle.replay_model.specs.Carrying.{turns_taken}
-use Rattle.replay_model.specs.State.{Taken, fib_turns, journal_of, owners_in, table_turns}
-use Rattle.turn_sender.specs.Sender.{SenderState, changes_in}
+use Rattle.run_model.specs.Carrying.{turns_taken}
+use Rattle.run_model.specs.State.{Taken, fib_turns, journal_of, table_turns}
+use Rattle.turn_log.specs.Sender.{SenderState, changes_in}
 use Rattle.cluster_open.specs.Opened.{by_number}
 use Rattle.cluster_replay.specs.Cluster.{IsCluster, IsSized, NodeState, NodeStore, RunState, cluster_of, fib_in, journal_in, journals_in, no_fib, no_node, no_sender, no_shard, node_state_of, shard_in, taken_in}
 use Rattle.cluster_replay.proofs.Answered.{fib_here, shard_here}

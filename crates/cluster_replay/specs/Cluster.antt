@@ -1,21 +1,21 @@
 -- What stands in a cluster's owners and nodes, and what a contract sees of them.
 use Rattle.std.specs.Prelude.{◌≡◌, ℕ, ◌<◌, ◌≤◌, Bool, List, [], length, map, take, slice_index_or, All, Option, Some, None, Result, Ok, Err, IfSome, slice_set}
 use Rattle.flow_types.specs.declared.record.Flow.{Flow}
-use Rattle.flow_types.specs.Size.{IsShape, Size}
+use Rattle.flow_types.specs.Size.{IsShape, Size, owners_in}
 use Rattle.group_search.specs.Records.{AreHandled}
 use Rattle.group_history.specs.declared.change.Change.{Change}
-use Rattle.rib_owner.specs.declared.refused.UpdateRefused.{UpdateRefused}
-use Rattle.rib_owner.specs.declared.refused.UpdateRefused.TheVariants.{OutOfMemory}
+use Rattle.group_history.specs.declared.refused.UpdateRefused.{UpdateRefused}
+use Rattle.group_history.specs.declared.refused.UpdateRefused.TheVariants.{OutOfMemory}
 use Rattle.partial_fib.specs.Fib.{FibState, fib_after, with_turn}
 use Rattle.partial_fib.specs.Store.{FibStore, state_of}
 use Rattle.delta_codec.specs.declared.message.FibMessage.{FibMessage}
 use Rattle.delta_codec.specs.declared.message.TableMessage.{TableMessage}
 use Rattle.packet_reader.specs.declared.event.Part.{Part}
-use Rattle.replay_model.specs.Carrying.{carry_reply, turns_taken}
-use Rattle.replay_model.specs.State.{ClusterState, Journals, Taken, fib_turns, journal_of, owners_in, table_turns, taken_by}
-use Rattle.replay_model.specs.declared.reply.Reply.{Reply}
-use Rattle.replay_model.specs.declared.reply.Reply.TheVariants.{Accepted, Applied, Refused}
-use Rattle.turn_sender.specs.Sender.{IsSenderOf, SenderState, changes_in}
+use Rattle.run_model.specs.Carrying.{carry_reply, turns_taken}
+use Rattle.run_model.specs.State.{ClusterState, Journals, Taken, fib_turns, journal_of, table_turns, taken_by}
+use Rattle.run_model.specs.declared.reply.Reply.{Reply}
+use Rattle.run_model.specs.declared.reply.Reply.TheVariants.{Accepted, Applied, Refused}
+use Rattle.turn_log.specs.Sender.{IsSenderOf, SenderState, changes_in}
 use Rattle.replica_shard.specs.Shard.{ShardState, shard_after, with_content}
 use Rattle.replica_shard.specs.Store.{ShardStore, shard_state_of}
 use Rattle.cluster_open.specs.Opened.{by_number}
@@ -107,7 +107,7 @@ pub record IsNodeOf (size : Size) (flows : List Flow) (journal : ℕ → List Ch
   pub tables : (owner : ℕ) → owner < owners_in size → IsTableOf size owner flows (journal owner) (shard_in node owner)
   pub fibs : (owner : ℕ) → owner < owners_in size → IsFibOf size number owner flows (journal owner) (fib_in node owner)
 
--- the change gives its key to one of so many nodes, or to none
+-- the change gives its key to one of the nodes, or to none
 abbrev pub GoesTo : (nodes : ℕ) → Change → Type 0
 GoesTo nodes change = IfSome change.to (λ to. to.0 < nodes)
 
@@ -133,13 +133,17 @@ with_journals run journals = record run { cluster = record (run.cluster) { journ
 abbrev pub with_nodes : RunState → List Taken → RunState
 with_nodes run nodes = record run { cluster = record (run.cluster) { nodes = nodes } }
 
+-- nothing is another, but what the nodes have taken
+abbrev pub IsSameButForNodes : (before now : ClusterState) → Type 0
+IsSameButForNodes before now = now ≡ record before { nodes = now.nodes }
+
 -- what a node has taken that has taken all that was sent
 abbrev pub all_sent : Journals → Taken
 all_sent journals =
     let all = map (λ changes. length changes) journals in
     record { tables = all; fibs = all }
 
--- the reply of a node's part that has so many turns to the message of a turn
+-- the reply of a node's part that has these turns to the message of a turn
 abbrev pub taking_reply : (have turn : ℕ) → Reply
 taking_reply have turn = carry_reply turn have turn
 

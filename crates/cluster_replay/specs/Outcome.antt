@@ -2,8 +2,8 @@
 use Rattle.std.specs.Prelude.{ℕ, List, Result, Ok, Err}
 use Rattle.packet_reader.specs.declared.event.Event.{Event}
 use Rattle.packet_reader.specs.declared.mode.Mode.TheVariants.{Replay}
-use Rattle.replay_model.specs.Replaying.{replayed_with_updates}
-use Rattle.replay_model.specs.declared.reply.Reply.{Reply}
+use Rattle.run_model.specs.Replaying.{replayed_with_updates}
+use Rattle.run_model.specs.declared.reply.Reply.{Reply}
 use Rattle.run_report.specs.Report.{report}
 use Rattle.cluster_open.specs.declared.fault.InputFault.{InputFault}
 use Rattle.cluster_open.specs.Input.{Input, input_in, opened}

@@ -3,9 +3,9 @@ use Rattle.std.specs.Prelude.{ℕ, List, map, max, slice_index}
 use Rattle.delta_codec.specs.declared.message.TableMessage.{TableMessage}
 use Rattle.packet_reader.specs.declared.event.Part.{Part}
 use Rattle.packet_reader.specs.declared.event.Part.TheVariants.{Fib, Table}
-use Rattle.replica_shard.specs.Message.{IsTableMessageOf, TableMessageFits}
-use Rattle.replay_model.specs.Carrying.{with_taken}
-use Rattle.replay_model.specs.State.{ClusterState, Taken, journal_of}
+use Rattle.delta_codec.specs.Messages.{IsTableMessageOf, TableMessageFits}
+use Rattle.run_model.specs.Carrying.{with_taken}
+use Rattle.run_model.specs.State.{ClusterState, Taken, journal_of}
 use Rattle.cluster_replay.specs.Cluster.{RunState, with_nodes}
 
 -- the message of an owner's turn for the nodes' tables

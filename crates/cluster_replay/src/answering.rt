@@ -1,12 +1,12 @@
 ghost use Rattle.std.specs.Prelude.{◌≡◌, All, IfOk};
 ghost use Rattle.packet_reader.specs.Form.{IsFormed};
 ghost use Rattle.packet_reader.specs.declared.mode.Mode.TheVariants.{Replay};
-ghost use Rattle.replay_model.specs.Replaying.{replies_from};
+ghost use Rattle.run_model.specs.Replaying.{replies_from};
 
 use crate::cluster::Cluster;
 use out_of_memory::OutOfMemory;
 use packet_reader::Event;
-use replay_model::Reply;
+use run_model::Reply;
 use std::alloc::Global;
 
 /// The replies of a cluster to a script, one for each event.

@@ -2,8 +2,9 @@
 
 ghost use Rattle.std.specs.Prelude.{◌≡◌, ◌<◌, ◌≤◌, IfOk, OnErr, OnOk, length};
 ghost use Rattle.packet_reader.specs.declared.event.Part.TheVariants.{Fib as of_fib, Table as of_table};
-ghost use Rattle.replay_model.specs.Carrying.{after_carry, carry_reply, turns_taken};
-ghost use Rattle.replay_model.specs.State.{journal_of, owners_in};
+ghost use Rattle.run_model.specs.Carrying.{after_carry, carry_reply, turns_taken};
+ghost use Rattle.flow_types.specs.Size.{owners_in};
+ghost use Rattle.run_model.specs.State.{journal_of};
 ghost use Rattle.cluster_replay.specs.Cluster.{with_nodes};
 ghost use Rattle.cluster_replay.specs.Turn.{IsTurnsTableMessage};
 
@@ -11,7 +12,7 @@ use crate::cluster::Cluster;
 use delta_codec::TableMessage;
 use out_of_memory::OutOfMemory;
 use packet_reader::Part;
-use replay_model::Reply;
+use run_model::Reply;
 
 impl Cluster {
     /// Delivers one message of a turn, where there is such a turn.
@@ -25,8 +26,11 @@ impl Cluster {
         requires node { node < self.old.cluster.opened.size.nodes }
         requires owner { owner < self.old.cluster.opened.size.nodes }
         requires first { 1 ≤ turn }
-        ensures reply { IfOk result (λ reply. reply ≡ carry_reply (length (journal_of self.old.cluster.journals owner)) (turns_taken part self.old.cluster.nodes node owner) turn) }
-        ensures taken { OnOk result (self.new ≡ with_nodes self.old (after_carry self.old.cluster.journals self.old.cluster.nodes node owner turn part)) }
+        ensures reply { IfOk result (λ reply. reply ≡ carry_reply
+            (length (journal_of self.old.cluster.journals owner))
+            (turns_taken part self.old.cluster.nodes node owner) turn) }
+        ensures taken { OnOk result (self.new ≡ with_nodes self.old
+            (after_carry self.old.cluster.journals self.old.cluster.nodes node owner turn part)) }
         ensures refused { OnErr result (self.new ≡ self.old) }
     {
         let Some(sender) = self.owners.get(usize::from(owner)) else {
@@ -44,8 +48,11 @@ impl Cluster {
         requires owner { owner < owners_in self.old.cluster.opened.size }
         requires first { 1 ≤ turn }
         requires sent { turn ≤ length (journal_of self.old.cluster.journals owner) }
-        ensures reply { IfOk result (λ reply. reply ≡ carry_reply (length (journal_of self.old.cluster.journals owner)) (turns_taken part self.old.cluster.nodes node owner) turn) }
-        ensures taken { OnOk result (self.new ≡ with_nodes self.old (after_carry self.old.cluster.journals self.old.cluster.nodes node owner turn part)) }
+        ensures reply { IfOk result (λ reply. reply ≡ carry_reply
+            (length (journal_of self.old.cluster.journals owner))
+            (turns_taken part self.old.cluster.nodes node owner) turn) }
+        ensures taken { OnOk result (self.new ≡ with_nodes self.old
+            (after_carry self.old.cluster.journals self.old.cluster.nodes node owner turn part)) }
         ensures refused { OnErr result (self.new ≡ self.old) }
     {
         match part {
@@ -60,8 +67,10 @@ impl Cluster {
         requires owner { owner < owners_in self.old.cluster.opened.size }
         requires first { 1 ≤ turn }
         requires sent { turn ≤ length (journal_of self.old.cluster.journals owner) }
-        ensures reply { result ≡ carry_reply (length (journal_of self.old.cluster.journals owner)) (turns_taken of_table self.old.cluster.nodes node owner) turn }
-        ensures taken { self.new ≡ with_nodes self.old (after_carry self.old.cluster.journals self.old.cluster.nodes node owner turn of_table) }
+        ensures reply { result ≡ carry_reply (length (journal_of self.old.cluster.journals owner))
+            (turns_taken of_table self.old.cluster.nodes node owner) turn }
+        ensures taken { self.new ≡ with_nodes self.old
+            (after_carry self.old.cluster.journals self.old.cluster.nodes node owner turn of_table) }
     {
         let message = self.table_message(owner, turn);
         self.tell_table(node, owner, turn, &message)
@@ -89,8 +98,10 @@ impl Cluster {
         requires owner { owner < owners_in self.old.cluster.opened.size }
         requires sent { turn ≤ length (journal_of self.old.cluster.journals owner) }
         requires told { IsTurnsTableMessage self.old.cluster owner turn message.now }
-        ensures reply { result ≡ carry_reply (length (journal_of self.old.cluster.journals owner)) (turns_taken of_table self.old.cluster.nodes node owner) turn }
-        ensures taken { self.new ≡ with_nodes self.old (after_carry self.old.cluster.journals self.old.cluster.nodes node owner turn of_table) }
+        ensures reply { result ≡ carry_reply (length (journal_of self.old.cluster.journals owner))
+            (turns_taken of_table self.old.cluster.nodes node owner) turn }
+        ensures taken { self.new ≡ with_nodes self.old
+            (after_carry self.old.cluster.journals self.old.cluster.nodes node owner turn of_table) }
     {
         self.nodes[usize::from(node)].take_table(message)
     }
@@ -101,8 +112,11 @@ impl Cluster {
         requires owner { owner < owners_in self.old.cluster.opened.size }
         requires first { 1 ≤ turn }
         requires sent { turn ≤ length (journal_of self.old.cluster.journals owner) }
-        ensures reply { IfOk result (λ reply. reply ≡ carry_reply (length (journal_of self.old.cluster.journals owner)) (turns_taken of_fib self.old.cluster.nodes node owner) turn) }
-        ensures taken { OnOk result (self.new ≡ with_nodes self.old (after_carry self.old.cluster.journals self.old.cluster.nodes node owner turn of_fib)) }
+        ensures reply { IfOk result (λ reply. reply ≡ carry_reply
+            (length (journal_of self.old.cluster.journals owner))
+            (turns_taken of_fib self.old.cluster.nodes node owner) turn) }
+        ensures taken { OnOk result (self.new ≡ with_nodes self.old
+            (after_carry self.old.cluster.journals self.old.cluster.nodes node owner turn of_fib)) }
         ensures refused { OnErr result (self.new ≡ self.old) }
     {
         let message = self.owners[usize::from(owner)].fib_message(turn, node);

@@ -2,11 +2,11 @@ ghost use Rattle.std.specs.Prelude.{◌≡◌, ◌<◌, IsErr, IsTrue, IfOk, IfS
 ghost use Rattle.std.specs.Result.{result_ok};
 ghost use Rattle.packet_reader.specs.Form.{IsFormed};
 ghost use Rattle.packet_reader.specs.declared.mode.Mode.TheVariants.{Replay};
-ghost use Rattle.replay_model.specs.Packets.{answer_of, packet_reply};
-ghost use Rattle.replay_model.specs.Replaying.{reply_in, state_after};
-ghost use Rattle.replay_model.specs.Updates.{after_update, update_reply};
-ghost use Rattle.replay_model.specs.declared.reply.Reply.TheVariants.{Synced};
-ghost use Rattle.cluster_replay.specs.Cluster.{told_of, with_journals};
+ghost use Rattle.run_model.specs.Packets.{answer_of, packet_reply};
+ghost use Rattle.run_model.specs.Replaying.{reply_in, state_after};
+ghost use Rattle.run_model.specs.Updates.{after_update, update_reply};
+ghost use Rattle.run_model.specs.declared.reply.Reply.TheVariants.{Synced};
+ghost use Rattle.cluster_replay.specs.Cluster.{IsSameButForNodes, told_of, with_journals};
 ghost use Rattle.rib_owner.specs.Turn.{node_entered};
 
 use crate::node::Node;
@@ -15,10 +15,10 @@ use hash_family::place;
 use out_of_memory::OutOfMemory;
 use packet_reader::Event;
 use partial_fib::FibSeen;
-use replay_model::Reply;
 use rib_owner::{Update, UpdateRefused};
+use run_model::Reply;
 use std::marker::Model;
-use turn_sender::Sender;
+use turn_log::Sender;
 
 /// A cluster in a run: an owner for each that has a block, and the nodes.
 #[derive(Drop)]
@@ -42,13 +42,16 @@ impl Model for Cluster {
 }
 
 impl Cluster {
-    /// Handles an event: the reply to it, by all events before it. Where memory is wanting, each later call answers so, too.
+    /// Handles an event: the reply to it, by all events before it. Where memory is wanting, each later call answers so, too, and
+    /// all is as it was, but for messages that a `sync` had delivered.
     ///
-    /// The event has the form of a row of the script of a cluster of this size.
+    /// The event has the form of a row of the script of a cluster of this size, which never changes.
     pub fn handle(&mut self, event: &Event) -> Result<Reply, OutOfMemory>
         requires { IsFormed Replay self.old.cluster.opened.size event.now }
         ensures reply { IfOk result (λ reply. reply ≡ reply_in self.old.cluster event.now) }
         ensures goes_on { OnOk result (self.new.cluster ≡ state_after self.old.cluster event.now) }
+        ensures opening { self.new.cluster.opened ≡ self.old.cluster.opened }
+        ensures stays { OnErr result (IsSameButForNodes self.old.cluster self.new.cluster) }
         ensures lacking { IsTrue self.old.lacks_memory → IsErr result }
         ensures lacks { self.new.lacks_memory ≡ is_err result }
     {
@@ -60,11 +63,12 @@ impl Cluster {
         answered
     }
 
-    #[tactic(auto, unfolding(replay_model::specs::Replaying::reply_in, replay_model::specs::Replaying::state_after))]
+    #[tactic(auto, unfolding(run_model::specs::Replaying::reply_in, run_model::specs::Replaying::state_after))]
     fn answer(&mut self, event: &Event) -> Result<Reply, OutOfMemory>
         requires { IsFormed Replay self.old.cluster.opened.size event.now }
         ensures reply { IfOk result (λ reply. reply ≡ reply_in self.old.cluster event.now) }
         ensures goes_on { OnOk result (self.new.cluster ≡ state_after self.old.cluster event.now) }
+        ensures stays { OnErr result (IsSameButForNodes self.old.cluster self.new.cluster) }
     {
         match *event {
             Event::Set(flow) => self.update(Update::Set(flow)),
@@ -86,8 +90,10 @@ impl Cluster {
     /// Gives an update to the owner of its key.
     fn update(&mut self, update: Update) -> Result<Reply, OutOfMemory>
         requires { IfSome (node_entered update) (λ node. node < self.old.cluster.opened.size.nodes) }
-        ensures reply { IfOk result (λ reply. reply ≡ update_reply self.old.cluster.opened self.old.cluster.journals update) }
-        ensures journals { OnOk result (self.new ≡ with_journals self.old (after_update self.old.cluster.opened self.old.cluster.journals update)) }
+        ensures reply { IfOk result (λ reply. reply ≡ update_reply self.old.cluster.opened
+            self.old.cluster.journals update) }
+        ensures journals { OnOk result (self.new ≡ with_journals self.old
+            (after_update self.old.cluster.opened self.old.cluster.journals update)) }
         ensures refused { OnErr result (self.new ≡ self.old) }
     {
         let owner = self.shape.owner(place(self.shape, update.key()).block);
@@ -98,7 +104,8 @@ impl Cluster {
     /// The reply to a packet: its ingress sends it on by its table, and the node that it comes to answers by its FIB.
     fn send(&mut self, ingress: u8, key: FlowKey) -> Reply
         requires { ingress < self.old.cluster.opened.size.nodes }
-        ensures reply { result ≡ packet_reply self.old.cluster.opened self.old.cluster.journals self.old.cluster.nodes ingress key }
+        ensures reply { result ≡ packet_reply self.old.cluster.opened self.old.cluster.journals
+            self.old.cluster.nodes ingress key }
         ensures kept { self.new ≡ self.old }
     {
         let at = place(self.shape, key);

@@ -24,9 +24,6 @@ pub use cluster_open::{InputFault, first_bad_row_law, openings_can_be_opened};
 pub use law::replays_are_runs;
 pub use opening::open;
 pub use packet_reader::{Event, Part};
-pub use replay_model::Reply;
-pub use replaying::{Replayed, answer_rows, replay, replay_vec};
+pub use replaying::{Replayed, answer_rows, replay, replay_input};
+pub use run_model::Reply;
 pub use run_report::report;
-
-#[cfg(test)]
-mod tests;

@@ -1,7 +1,7 @@
 ghost use Rattle.std.specs.Prelude.{◌≡◌, ◌+◌, ◌%◌, ◌<◌, ◌≤◌, IfOk, OnErr, length};
-ghost use Rattle.partial_fib.specs.Message.{FibMessageFits};
+ghost use Rattle.delta_codec.specs.Messages.{FibMessageFits};
 ghost use Rattle.group_search.specs.Canon.{rows_in};
-ghost use Rattle.replica_shard.specs.Message.{TableMessageFits};
+ghost use Rattle.delta_codec.specs.Messages.{TableMessageFits};
 ghost use Rattle.replica_shard.specs.Shard.{free_rows, home_in_state, route_in_state};
 ghost use Rattle.cluster_replay.specs.Cluster.{after_fib, after_table, fib_in, node_of_parts, node_state_of, shard_in, taking_reply};
 
@@ -11,8 +11,8 @@ use flow_types::FlowKey;
 use hash_family::Place;
 use out_of_memory::OutOfMemory;
 use partial_fib::{Fib, FibRefused};
-use replay_model::Reply;
 use replica_shard::{Route, ShardRefused};
+use run_model::Reply;
 use std::marker::Model;
 
 /// One node of a cluster: its table and its FIB of each owner that has a block, by the owner's number.
@@ -45,10 +45,12 @@ impl Node {
     pub(crate) fn take_table(&mut self, message: &TableMessage) -> Reply
         requires there { message.now.owner < length self.old.shards }
         requires own { (shard_in (node_state_of self.old) message.now.owner).owner ≡ message.now.owner }
-        requires fits { TableMessageFits (shard_in (node_state_of self.old) message.now.owner).size message.now }
+        requires fits { TableMessageFits (shard_in (node_state_of self.old) message.now.owner).size
+            message.now }
         requires room { message.now.turn ≡ (shard_in (node_state_of self.old) message.now.owner).taken + 1 →
             rows_in message.now.content ≤ free_rows (shard_in (node_state_of self.old) message.now.owner) message.now.block message.now.group }
-        ensures reply { result ≡ taking_reply (shard_in (node_state_of self.old) message.now.owner).taken message.now.turn }
+        ensures reply { result ≡ taking_reply (shard_in (node_state_of self.old) message.now.owner).taken
+            message.now.turn }
         ensures taken { node_state_of self.new ≡ after_table (node_state_of self.old) message.now result }
     {
         match self.tables[usize::from(message.owner)].apply(message) {
@@ -63,9 +65,11 @@ impl Node {
     /// The block and the group of a key whose place is known, by the table of the owner of the place's block.
     pub(crate) fn home_at(&self, owner: usize, at: Place) -> (u16, u8)
         requires there { owner < length self.now.shards }
-        requires owned { at.block % (shard_in (node_state_of self.now) owner).size.nodes ≡ (shard_in (node_state_of self.now) owner).owner }
+        requires owned { at.block % (shard_in (node_state_of self.now) owner).size.nodes ≡
+            (shard_in (node_state_of self.now) owner).owner }
         requires within { at.block < (shard_in (node_state_of self.now) owner).size.blocks }
-        ensures home { record { block = result.0; group = result.1 } ≡ home_in_state (shard_in (node_state_of self.now) owner) at }
+        ensures home { record { block = result.0; group = result.1 } ≡ home_in_state
+            (shard_in (node_state_of self.now) owner) at }
         ensures in_block { result.1 < 64 }
     {
         self.tables[owner].home_at(at)
@@ -74,7 +78,8 @@ impl Node {
     /// Where the table of the owner of the place's block sends a key whose place is known. Nothing changes.
     pub(crate) fn route_at(&mut self, owner: usize, at: Place, key: FlowKey) -> Route
         requires there { owner < length self.old.shards }
-        requires owned { at.block % (shard_in (node_state_of self.old) owner).size.nodes ≡ (shard_in (node_state_of self.old) owner).owner }
+        requires owned { at.block % (shard_in (node_state_of self.old) owner).size.nodes ≡
+            (shard_in (node_state_of self.old) owner).owner }
         requires within { at.block < (shard_in (node_state_of self.old) owner).size.blocks }
         ensures value { result ≡ route_in_state (shard_in (node_state_of self.old) owner) at key }
         ensures kept { self.new ≡ self.old }
@@ -87,8 +92,10 @@ impl Node {
         requires there { message.now.owner < length self.old.fibs }
         requires own { (fib_in (node_state_of self.old) message.now.owner).owner ≡ message.now.owner }
         requires fits { FibMessageFits (fib_in (node_state_of self.old) message.now.owner).size message.now }
-        ensures reply { IfOk result (λ reply. reply ≡ taking_reply (fib_in (node_state_of self.old) message.now.owner).taken message.now.turn) }
-        ensures taken { IfOk result (λ reply. node_state_of self.new ≡ after_fib (node_state_of self.old) message.now reply) }
+        ensures reply { IfOk result (λ reply. reply ≡ taking_reply
+            (fib_in (node_state_of self.old) message.now.owner).taken message.now.turn) }
+        ensures taken { IfOk result (λ reply. node_state_of self.new ≡ after_fib (node_state_of self.old)
+            message.now reply) }
         ensures refused { OnErr result (self.new ≡ self.old) }
     {
         match self.fibs[usize::from(message.owner)].apply(message) {

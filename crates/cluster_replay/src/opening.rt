@@ -5,7 +5,7 @@ ghost use Rattle.flow_types.specs.Map.{AreDistinct};
 ghost use Rattle.flow_types.specs.Size.{IsShape};
 ghost use Rattle.group_search.specs.Build.{past_limit};
 ghost use Rattle.group_search.specs.Records.{AreHandled};
-ghost use Rattle.replay_model.specs.Replaying.{fresh};
+ghost use Rattle.run_model.specs.Replaying.{fresh};
 ghost use Rattle.cluster_open.specs.Limits.{IsCausedBy};
 ghost use Rattle.cluster_open.specs.Opened.{AreOpenedNodes, AreOpenedSenders};
 ghost use Rattle.cluster_replay.specs.Cluster.{node_of_parts};
@@ -21,7 +21,7 @@ use std::thread::Threads;
 
 /// The cluster of an opening, whose keys are distinct and whose nodes are the shape's, as `read_opening` gives it.
 ///
-/// The table is built by so many workers, 1..=64, which change nothing in it. The first block that is past a limit is
+/// The table is built by 1..=64 `workers`, which change nothing in it. The first block that is past a limit is
 /// the fault.
 pub fn open<R: Threads + Sync>(
     rt: &R,
@@ -33,7 +33,8 @@ pub fn open<R: Threads + Sync>(
     requires handled { AreHandled opening.now.shape.nodes opening.now.flows }
     requires some_worker { 1 ≤ workers }
     requires few_workers { workers ≤ 64 }
-    ensures opened { IfOk result (λ run. run.cluster ≡ fresh (record { size = opening.now.shape; flows = opening.now.flows })) }
+    ensures opened { IfOk result (λ run. run.cluster ≡ fresh
+        (record { size = opening.now.shape; flows = opening.now.flows })) }
     ensures memory { IfOk result (λ run. run.lacks_memory ≡ false) }
     ensures within { OnOk result (past_limit opening.now.shape opening.now.flows ≡ None) }
     ensures refused { IfErr result (IsCausedBy (past_limit opening.now.shape opening.now.flows)) }

@@ -12,9 +12,9 @@ ghost use Rattle.cluster_replay.specs.Seen.{said};
 
 use crate::answering::replies;
 use crate::opening::open;
-use cluster_open::{InputFault, InputRows, read_rows, read_vec};
+use cluster_open::{InputFault, InputRows, read_rows};
 use packet_reader::{Event, Mode};
-use replay_model::Reply;
+use run_model::Reply;
 use run_report::report;
 use std::alloc::Global;
 use std::thread::Threads;
@@ -46,26 +46,7 @@ pub fn replay<R: Threads + Sync>(
     ensures run { AnswersRun Replay 1 bytes.now result }
 {
     match read_rows(alloc, bytes, Mode::Replay) {
-        Ok(input) => print_input(rt, alloc, input, workers),
-        Err(fault) => Err(fault),
-    }
-}
-
-/// What `replay` answers for the octets, which are freed once they are read: before the table is built.
-pub fn replay_vec<R: Threads + Sync>(
-    rt: &R,
-    alloc: Global,
-    bytes: Vec<u8>,
-    workers: u8,
-) -> Result<Vec<u8>, InputFault>
-    requires some_worker { 1 ≤ workers }
-    requires few_workers { workers ≤ 64 }
-    requires limit { length bytes.items ≤ most_octets }
-    ensures answers { Answers (λ text. text.items) named_fault (outcome bytes.items) result }
-    ensures run { AnswersRun Replay 1 bytes.items result }
-{
-    match read_vec(alloc, bytes, Mode::Replay) {
-        Ok(input) => print_input(rt, alloc, input, workers),
+        Ok(input) => replay_input(rt, alloc, input, workers),
         Err(fault) => Err(fault),
     }
 }
@@ -90,8 +71,8 @@ pub fn answer_rows<R: Threads + Sync>(
     }
 }
 
-/// The printed run of an input that was read.
-fn print_input<R: Threads + Sync>(
+/// What `replay` answers for the octets of which this input was read. A caller that owns the octets can free them before.
+pub fn replay_input<R: Threads + Sync>(
     rt: &R,
     alloc: Global,
     input: InputRows,
@@ -124,7 +105,8 @@ fn answer_input<R: Threads + Sync>(
     ensures answers { (octets : List ℕ) → IsReadFrom Replay octets input.opening input.script.items →
         Answers said named_fault (outcome_by replay_replies octets) result }
     ensures fit { IfOk result (λ made. AreOfTheirEvents made.script.items made.replies.items) }
-    ensures counted { IfOk result (λ made. (octets : List ℕ) → IsReadFrom Replay octets input.opening input.script.items →
+    ensures counted { IfOk result (λ made. (octets : List ℕ) →
+        IsReadFrom Replay octets input.opening input.script.items →
         made.row_count ≡ length (rows octets)) }
 {
     let InputRows { opening, script } = input;

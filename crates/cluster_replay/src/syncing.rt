@@ -1,10 +1,11 @@
 //! How all nodes are told what they are missing: an owner's turns one after the other, each to every node.
 
-ghost use Rattle.std.specs.Prelude.{◌≡◌, ◌+◌, ◌<◌, ◌≤◌, ℕ, OnOk, length};
+ghost use Rattle.std.specs.Prelude.{◌≡◌, ◌+◌, ◌<◌, ◌≤◌, ℕ, OnErr, OnOk, length};
 ghost use Rattle.packet_reader.specs.declared.event.Part.TheVariants.{Fib as of_fib, Table as of_table};
-ghost use Rattle.replay_model.specs.Carrying.{after_sync, turns_taken};
-ghost use Rattle.replay_model.specs.State.{journal_of, owners_in};
-ghost use Rattle.cluster_replay.specs.Cluster.{IsSized, with_nodes};
+ghost use Rattle.run_model.specs.Carrying.{after_sync, turns_taken};
+ghost use Rattle.flow_types.specs.Size.{owners_in};
+ghost use Rattle.run_model.specs.State.{journal_of};
+ghost use Rattle.cluster_replay.specs.Cluster.{IsSameButForNodes, IsSized, with_nodes};
 ghost use Rattle.cluster_replay.specs.Turn.{with_turns};
 
 use crate::cluster::Cluster;
@@ -14,7 +15,9 @@ use packet_reader::Part;
 impl Cluster {
     /// Delivers all messages that are missing, to every node.
     pub(crate) fn sync(&mut self) -> Result<(), OutOfMemory>
-        ensures { OnOk result (self.new ≡ with_nodes self.old (after_sync self.old.cluster.journals self.old.cluster.nodes)) }
+        ensures told { OnOk result (self.new ≡ with_nodes self.old
+            (after_sync self.old.cluster.journals self.old.cluster.nodes)) }
+        ensures stays { OnErr result (IsSameButForNodes self.old.cluster self.new.cluster) }
     {
         'owners: for owner in 0..self.owner_count() {
             self.bring_up(owner, Part::Table)?;
@@ -26,7 +29,9 @@ impl Cluster {
     /// Delivers an owner's messages that tables or FIBs are missing, turn by turn, to every node.
     fn bring_up(&mut self, owner: u8, part: Part) -> Result<(), OutOfMemory>
         requires { owner < owners_in self.old.cluster.opened.size }
-        ensures { OnOk result (self.new ≡ with_turns part owner (length (journal_of self.old.cluster.journals owner)) self.old) }
+        ensures told { OnOk result (self.new ≡ with_turns part owner
+            (length (journal_of self.old.cluster.journals owner)) self.old) }
+        ensures stays { OnErr result (IsSameButForNodes self.old.cluster self.new.cluster) }
     {
         let (taken, sent) = (self.least_taken(owner, part), self.sent_turns(owner));
         'turns: for turn in taken..sent {
@@ -38,7 +43,8 @@ impl Cluster {
     /// The turns of an owner that each node's table or its FIB has taken.
     fn least_taken(&self, owner: u8, part: Part) -> u32
         requires { owner < owners_in self.now.cluster.opened.size }
-        ensures taken { (node : ℕ) → node < self.now.cluster.opened.size.nodes → result ≤ turns_taken part self.now.cluster.nodes node owner }
+        ensures taken { (node : ℕ) → node < self.now.cluster.opened.size.nodes →
+            result ≤ turns_taken part self.now.cluster.nodes node owner }
         ensures sent { result ≤ length (journal_of self.now.cluster.journals owner) }
         ensures sized { IsSized self.now }
     {
@@ -54,8 +60,10 @@ impl Cluster {
         requires owner { owner < owners_in self.old.cluster.opened.size }
         requires first { 1 ≤ turn }
         requires sent { turn ≤ length (journal_of self.old.cluster.journals owner) }
-        requires next { (node : ℕ) → node < self.old.cluster.opened.size.nodes → turn ≤ turns_taken part self.old.cluster.nodes node owner + 1 }
-        ensures { OnOk result (self.new ≡ with_turns part owner turn self.old) }
+        requires next { (node : ℕ) → node < self.old.cluster.opened.size.nodes →
+            turn ≤ turns_taken part self.old.cluster.nodes node owner + 1 }
+        ensures told { OnOk result (self.new ≡ with_turns part owner turn self.old) }
+        ensures stays { OnErr result (IsSameButForNodes self.old.cluster self.new.cluster) }
     {
         match part {
             Part::Table => {
@@ -71,11 +79,13 @@ impl Cluster {
         requires owner { owner < owners_in self.old.cluster.opened.size }
         requires first { 1 ≤ turn }
         requires sent { turn ≤ length (journal_of self.old.cluster.journals owner) }
-        requires next { (node : ℕ) → node < self.old.cluster.opened.size.nodes → turn ≤ turns_taken of_table self.old.cluster.nodes node owner + 1 }
+        requires next { (node : ℕ) → node < self.old.cluster.opened.size.nodes →
+            turn ≤ turns_taken of_table self.old.cluster.nodes node owner + 1 }
         ensures { self.new ≡ with_turns of_table owner turn self.old }
     {
         let message = self.table_message(owner, turn);
         'nodes: for node in 0..self.node_count() {
+            // A node that has the turn already says so, which a sync doesn't print.
             let _ = self.tell_table(node, owner, turn, &message);
         }
     }
@@ -85,8 +95,10 @@ impl Cluster {
         requires owner { owner < owners_in self.old.cluster.opened.size }
         requires first { 1 ≤ turn }
         requires sent { turn ≤ length (journal_of self.old.cluster.journals owner) }
-        requires next { (node : ℕ) → node < self.old.cluster.opened.size.nodes → turn ≤ turns_taken of_fib self.old.cluster.nodes node owner + 1 }
-        ensures { OnOk result (self.new ≡ with_turns of_fib owner turn self.old) }
+        requires next { (node : ℕ) → node < self.old.cluster.opened.size.nodes →
+            turn ≤ turns_taken of_fib self.old.cluster.nodes node owner + 1 }
+        ensures told { OnOk result (self.new ≡ with_turns of_fib owner turn self.old) }
+        ensures stays { OnErr result (IsSameButForNodes self.old.cluster self.new.cluster) }
     {
         'nodes: for node in 0..self.node_count() {
             self.carry_fib(node, owner, turn)?;

@@ -6,12 +6,11 @@ use Rattle.std.proofs.lemmas.List.{length-map}
 use Rattle.std.specs.Option.{option_map}
 use Rattle.std.proofs.lemmas.Option.{get_or_from_slice_get, slice_get-map, slice_get_within}
 use Rattle.flow_types.specs.declared.record.Flow.{Flow}
-use Rattle.flow_types.specs.Size.{Size}
-use Rattle.turn_sender.specs.Sender.{IsSenderOf, SenderState, changes_in}
+use Rattle.flow_types.specs.Size.{Size, owners_in}
+use Rattle.turn_log.specs.Sender.{IsSenderOf, SenderState, changes_in}
 use Rattle.cluster_open.specs.Opened.{AreOpenedSenders}
-use Rattle.replay_model.specs.Laws.{CanBeOpened, no_journals}
+use Rattle.run_model.specs.Laws.{CanBeOpened, no_journals}
 use Rattle.packet_reader.specs.declared.event.Event.{Event}
-use Rattle.storm_model.specs.Lists.{owners_in}
 use Rattle.storm_model.specs.Owners.{HasNoUpdate}
 use Rattle.storm_model.specs.Run.{AreJournals}
 use Rattle.storm_model.proofs.Journals.{journals-first}

@@ -8,7 +8,7 @@ use Rattle.flow_types.specs.Size.{Size}
 use Rattle.packet_reader.specs.declared.event.Event.{Event}
 use Rattle.packet_reader.specs.declared.event.Event.TheVariants.{Set, Del, Packet, Carry, Sync}
 use Rattle.packet_reader.specs.declared.event.Part.{Part}
-use Rattle.replay_model.specs.declared.reply.Reply.{Reply}
+use Rattle.run_model.specs.declared.reply.Reply.{Reply}
 use Rattle.storm_model.specs.Merging.{CanMerge, HasNext, Merged, MergesBehind, Queues, TakesFrom, TakesOne, owner_of_key, with_queue}
 
 one-queue : (before after : Queues) (worker : ℕ) → ((other : ℕ) → other ≢ worker → after other ≡ before other) → after ≡ with_queue before worker (after worker)

@@ -4,16 +4,16 @@ use Rattle.std.specs.Prelude.{All}
 use Rattle.std.specs.List.{slice_get}
 use Rattle.std.proofs.lemmas.Bool.{cases_lt}
 use Rattle.std.proofs.lemmas.Option.{same_Some, slice_get_past}
-use Rattle.flow_types.specs.Size.{Size}
+use Rattle.flow_types.specs.Size.{Size, owners_in}
 use Rattle.group_history.specs.declared.change.Change.{Change}
 use Rattle.packet_reader.specs.declared.event.Event.{Event}
 use Rattle.packet_reader.specs.declared.event.Event.TheVariants.{Set, Del, Packet, Carry, Sync}
 use Rattle.packet_reader.specs.Form.{IsInRange}
-use Rattle.replay_model.specs.declared.reply.Reply.{Reply}
-use Rattle.replay_model.specs.Laws.{IsRow}
-use Rattle.replay_model.specs.State.{ClusterOpening, Journals, journal_of}
+use Rattle.run_model.specs.declared.reply.Reply.{Reply}
+use Rattle.run_model.specs.Laws.{IsRow}
+use Rattle.run_model.specs.State.{ClusterOpening, Journals, journal_of}
 use Rattle.storm_model.specs.Laws.{CanBeSaid}
-use Rattle.storm_model.specs.Lists.{AreTurns, IsLater, WalksByLists, owners_in}
+use Rattle.storm_model.specs.Lists.{AreTurns, IsLater, WalksByLists}
 use Rattle.storm_model.specs.Merging.{CanMerge, Merged, MergesBehind, Queues}
 use Rattle.storm_model.specs.Owners.{HasNoUpdate, own_changes, own_replies}
 use Rattle.storm_model.specs.Phase.{IsOnePhase}

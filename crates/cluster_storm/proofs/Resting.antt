@@ -7,17 +7,17 @@ use Rattle.std.proofs.lemmas.List.FromFn.{get_or-map-range_with_len, length-map-
 use Rattle.std.specs.Option.{option_map}
 use Rattle.std.proofs.lemmas.Option.{same_Some, slice_get-map, slice_get_cases, slice_get_past}
 use Rattle.flow_types.specs.declared.record.Flow.{Flow}
-use Rattle.flow_types.specs.Size.{Size}
+use Rattle.flow_types.specs.Size.{Size, owners_in}
 use Rattle.replica_shard.specs.declared.shard.Shard.{Shard}
 use Rattle.replica_shard.specs.Seats.{shard_at}
 use Rattle.packet_path.specs.Seated.{Viewed}
 use Rattle.partial_fib.specs.Ends.{ReaderState}
 use Rattle.partial_fib.specs.Fib.{fib_after}
-use Rattle.partial_fib.specs.Message.{IsJournalOf}
+use Rattle.delta_codec.specs.Journals.{IsJournalOf}
 use Rattle.partial_fib.specs.Store.{state_of}
-use Rattle.replay_model.specs.State.{journal_of}
+use Rattle.run_model.specs.State.{journal_of}
 use Rattle.storm_model.specs.Follows.{FibFollows, TableFollows}
-use Rattle.storm_model.specs.Lists.{AreTurns, owners_in}
+use Rattle.storm_model.specs.Lists.{AreTurns}
 use Rattle.storm_model.proofs.Follows.{are-turns}
 use Rattle.storm_lane.specs.Lane.{AreWhole, LaneState, all_seats, lists_of, parts_of, shard_of, table_part, tables_of, turns_of}
 use Rattle.storm_lane.specs.Readers.{ReadersState, Seats, seats_of, table_opened}

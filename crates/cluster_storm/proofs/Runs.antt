@@ -8,14 +8,13 @@ use Rattle.group_search.specs.Build.{past_limit}
 use Rattle.packet_reader.specs.declared.event.Event.{Event}
 use Rattle.packet_reader.specs.declared.event.Event.TheVariants.{Set, Del, Packet, Carry, Sync}
 use Rattle.packet_reader.specs.declared.mode.Mode.TheVariants.{Storm}
-use Rattle.packet_reader.specs.Form.{IsFormed}
-use Rattle.replay_model.specs.declared.reply.Reply.{Reply}
-use Rattle.replay_model.specs.Laws.{IsRow}
+use Rattle.packet_reader.specs.Form.{IsFormed, IsRowOf}
+use Rattle.run_model.specs.declared.reply.Reply.{Reply}
+use Rattle.run_model.specs.Laws.{IsRow}
 use Rattle.run_report.specs.Report.{AreOfTheirEvents, report}
 use Rattle.run_report.proofs.EventKinds.{allowed_are_of_their_events}
 use Rattle.storm_model.specs.Storm.{IsNoCarry}
 use Rattle.cluster_open.specs.Input.{opened}
-use Rattle.cluster_open.specs.Laws.{IsRowOf}
 use Rattle.cluster_open.specs.Reading.{IsReadFrom}
 use Rattle.cluster_open.specs.Runs.{AreRunReplies, IsRunOf}
 use Rattle.cluster_open.proofs.ReadFacts.{counted, runs, scripted}

@@ -6,7 +6,7 @@ use Rattle.std.proofs.lemmas.Bool.{cases_eq}
 use Rattle.std.proofs.lemmas.List.{append-nil, length-map, length-set, map-append, replicate_more, same_from_push}
 use Rattle.std.proofs.lemmas.Option.{get_or_from_slice_get, same_Some, slice_get-map, slice_get_past, slice_get_within}
 use Rattle.flow_types.specs.declared.record.Flow.{Flow}
-use Rattle.flow_types.specs.Size.{Size}
+use Rattle.flow_types.specs.Size.{Size, owners_in}
 use Rattle.replica_shard.specs.Shard.{shard_after}
 use Rattle.replica_shard.specs.Store.{ShardStore, shard_state_of}
 use Rattle.partial_fib.specs.Ends.{ReaderState, reader_told}
@@ -14,7 +14,6 @@ use Rattle.partial_fib.specs.Fib.{fib_after}
 use Rattle.partial_fib.specs.Store.{FibStore, state_of}
 use Rattle.packet_path.specs.Fibs.{no_fib}
 use Rattle.packet_path.specs.Seated.{Viewed}
-use Rattle.storm_model.specs.Lists.{owners_in}
 use Rattle.storm_lane.specs.Lane.{LaneState, IsWhole, all_seats, book_of, fib_part, shard_of, tables_of, turns_of}
 use Rattle.storm_lane.specs.Readers.{ReadersState, Seats, seats_of}
 use Rattle.turn_relay.specs.Each.{AllFrom, Each, Every, HasAt}

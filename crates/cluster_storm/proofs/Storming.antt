@@ -8,14 +8,14 @@ use Rattle.flow_types.specs.Size.{IsShape}
 use Rattle.packet_reader.specs.declared.event.Event.{Event}
 use Rattle.packet_reader.specs.declared.event.Event.TheVariants.{Set, Del, Packet, Carry, Sync}
 use Rattle.packet_reader.specs.declared.mode.Mode.TheVariants as mode
-use Rattle.replay_model.specs.declared.reply.Reply.{Reply}
-use Rattle.replay_model.specs.declared.reply.Reply.TheVariants.{Synced}
-use Rattle.replay_model.specs.Allowed.{Allowed}
-use Rattle.replay_model.specs.Laws.{CanBeOpened, IsRow, no_journals}
-use Rattle.replay_model.specs.State.{ClusterOpening, Journals}
-use Rattle.replay_model.specs.Told.{EachPacket, GoesByRecord}
-use Rattle.replay_model.proofs.NeverBack.{no_lane_goes_back}
-use Rattle.replay_model.proofs.OneVersion.{one_version_tells}
+use Rattle.run_model.specs.declared.reply.Reply.{Reply}
+use Rattle.run_model.specs.declared.reply.Reply.TheVariants.{Synced}
+use Rattle.run_model.specs.Allowed.{Allowed}
+use Rattle.run_model.specs.Laws.{CanBeOpened, IsRow, no_journals}
+use Rattle.run_model.specs.State.{ClusterOpening, Journals}
+use Rattle.run_model.specs.Told.{EachPacket, GoesByRecord}
+use Rattle.run_model.proofs.NeverBack.{no_lane_goes_back}
+use Rattle.run_model.proofs.OneVersion.{one_version_tells}
 use Rattle.storm_model.specs.Owners.{HasNoUpdate, IsNotOf}
 use Rattle.storm_model.specs.Phase.{BreaksOff, IsOnePhase, packets_after}
 use Rattle.storm_model.specs.Run.{IsPhaseSaid}
@@ -28,7 +28,7 @@ use Rattle.cluster_storm.specs.Rest.{AreLinkedFor, Stand}
 -- ---- how far it has come
 
 -- the run of the storm over the script has come to these events: those before them are answered, with these replies, and
--- so many packets and updates were among them, or fewer
+-- no more packets and updates were among them than these
 pub record StormsSoFar (storm : StormState) (script : List Event) (now : StormState) (left : List Event) (packet update : ℕ) (replies : List Reply) : Type 0 where
   pub done : List Event
   pub split : script ≡ done ++ left

@@ -15,11 +15,11 @@ pub record Awaits (flows : List Flow) (working : List Bool) (appliers : List App
   pub ready : works working owner.number ≡ true → Every (IsReadyAt flows owner) appliers
   pub rests : works working owner.number ≡ false → Every (IsQuietAt flows owner) appliers
 
--- each of the applier's parts is of the same table and FIB as the one that stood at its place
+-- each of the applier's parts is of the same table and FIB as the one that stood at its index
 pub record KeepsParts (before after : ApplierState) : Type 0 where
   pub node : after.node ≡ before.node
-  pub parts : (place : ℕ) (now : PartState) → slice_get after.parts place ≡ Some now → (was : PartState) × (slice_get before.parts place ≡ Some was) × IsSamePart was now
+  pub parts : (index : ℕ) (now : PartState) → slice_get after.parts index ≡ Some now → (was : PartState) × (slice_get before.parts index ≡ Some was) × IsSamePart was now
 
 -- the parts of the owners before this one are as they were
 abbrev pub KeepsBefore : (owner : ℕ) → (before after : ApplierState) → Type 0
-KeepsBefore owner before after = (after.node ≡ before.node) × ((place : ℕ) → place < owner → slice_get after.parts place ≡ slice_get before.parts place)
+KeepsBefore owner before after = (after.node ≡ before.node) × ((index : ℕ) → index < owner → slice_get after.parts index ≡ slice_get before.parts index)

@@ -2,11 +2,10 @@
 use Rattle.std.specs.Prelude.{◌≡◌, ◌<◌, ℕ, List, [], length, Some}
 use Rattle.std.specs.List.{slice_get}
 use Rattle.flow_types.specs.declared.record.Flow.{Flow}
-use Rattle.flow_types.specs.Size.{Size}
-use Rattle.storm_model.specs.Lists.{owners_in}
+use Rattle.flow_types.specs.Size.{Size, owners_in}
 use Rattle.storm_lane.specs.Lane.{AreWhole, LaneState, all_seats}
 use Rattle.storm_lane.specs.Readers.{ReadersState, Seats}
-use Rattle.turn_sender.specs.Sender.{SenderState}
+use Rattle.turn_log.specs.Sender.{SenderState}
 use Rattle.turn_relay.specs.Each.{AllFrom}
 use Rattle.turn_relay.specs.Linking.{AreFresh, IsFresh, KeepsTurns}
 use Rattle.turn_relay.specs.OwnerState.{OwnerState, Stands, journal_in}
@@ -63,14 +62,14 @@ pub record CanBeLinked (flows : List Flow) (appliers : List ApplierState) (owner
   pub nodes : length appliers ≡ owner.size.nodes
   pub fresh : AreFresh flows owner 0 appliers
 
--- each of the applier's parts has the table and the FIB of the one that stood at its place
+-- each of the applier's parts has the table and the FIB of the one that stood at its index
 pub record KeepsTables (before after : ApplierState) : Type 0 where
   pub node : after.node ≡ before.node
-  pub parts : (place : ℕ) (now : PartState) → slice_get after.parts place ≡ Some now → (was : PartState) × (slice_get before.parts place ≡ Some was) × KeepsTurns was now
+  pub parts : (index : ℕ) (now : PartState) → slice_get after.parts index ≡ Some now → (was : PartState) × (slice_get before.parts index ≡ Some was) × KeepsTurns was now
 
 -- ---- lanes
 
--- the lane of this number, of so many
+-- the lane of this number among these lanes
 pub record IsLaneOf (size : Size) (lanes number : ℕ) (lane : LaneState) : Type 0 where
   pub sized : lane.size ≡ size
   pub numbered : lane.number ≡ number

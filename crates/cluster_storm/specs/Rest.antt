@@ -2,13 +2,12 @@
 use Rattle.std.specs.Prelude.{◌≡◌, ℕ, ◌<◌, ◌⊎◌, List, [], length, map, Option, Some, None}
 use Rattle.std.specs.List.{range_with_len, slice_get}
 use Rattle.flow_types.specs.declared.record.Flow.{Flow}
-use Rattle.flow_types.specs.Size.{Size}
+use Rattle.flow_types.specs.Size.{Size, owners_in}
 use Rattle.group_history.specs.declared.change.Change.{Change}
 use Rattle.packet_reader.specs.declared.event.Event.{Event}
-use Rattle.replay_model.specs.declared.reply.Reply.{Reply}
-use Rattle.replay_model.specs.Laws.{CanBeOpened}
-use Rattle.replay_model.specs.State.{ClusterOpening, Journals}
-use Rattle.storm_model.specs.Lists.{owners_in}
+use Rattle.run_model.specs.declared.reply.Reply.{Reply}
+use Rattle.run_model.specs.Laws.{CanBeOpened}
+use Rattle.run_model.specs.State.{ClusterOpening, Journals}
 use Rattle.storm_model.specs.Owners.{HasNoUpdate}
 use Rattle.storm_model.specs.Run.{AreJournals}
 use Rattle.storm_model.specs.Storm.{PhaseBehind, StormState}
@@ -69,7 +68,7 @@ pub record HasSeen (lane : LaneState) (node owner : ℕ) (part : PartState) : Ty
   pub records : (lists_of lane.readers).tables node owner ≡ part.table.list
   pub turns : (lists_of lane.readers).fibs node owner ≡ part.fib.turns
 
--- it is the lane of this number, of so many, and has readers of each owner that has a block at each node
+-- it is the lane of this number among these lanes, and has readers of each owner that has a block at each node
 pub record IsLaneAt (size : Size) (lanes number : ℕ) (lane : LaneState) : Type 0 where
   pub sized : lane.size ≡ size
   pub numbered : lane.number ≡ number

@@ -1,14 +1,13 @@
 -- What stands while the nodes' parts are made, and the lanes' readers of them.
 use Rattle.std.specs.Prelude.{◌≡◌, ℕ, List, [], ◌∷◌, ◌++◌, length, map, Option, None, Some}
 use Rattle.std.specs.List.{slice_get}
-use Rattle.flow_types.specs.Size.{Size}
+use Rattle.flow_types.specs.Size.{Size, owners_in}
 use Rattle.replica_shard.specs.Seats.{shard_at}
 use Rattle.replica_shard.specs.Store.{ShardStore}
 use Rattle.partial_fib.specs.Ends.{ReaderState, reader_told}
 use Rattle.partial_fib.specs.Store.{FibStore}
 use Rattle.packet_path.specs.Fibs.{IsFibOf}
 use Rattle.packet_path.specs.Seated.{Viewed}
-use Rattle.storm_model.specs.Lists.{owners_in}
 use Rattle.storm_lane.specs.Readers.{ReadersState}
 use Rattle.turn_relay.specs.declared.state.State.TheVariants.{Clear}
 use Rattle.turn_relay.specs.Each.{ChangesAt, Each}

@@ -1,6 +1,6 @@
 -- What a phase's workers give of their replies.
 use Rattle.std.specs.Prelude.{◌≡◌, List, [], Option, Some, None}
-use Rattle.replay_model.specs.declared.reply.Reply.{Reply}
+use Rattle.run_model.specs.declared.reply.Reply.{Reply}
 use Rattle.storm_lane.specs.Lane.{LaneState}
 use Rattle.turn_relay.specs.OwnerState.{OwnerState}
 

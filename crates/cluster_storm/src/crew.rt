@@ -54,7 +54,8 @@ fn wait<R: Wait>(rt: &R, started: &AtomicU64) {
 
 /// An owner's work. Want of memory ends it, and it counts as done.
 fn own<R: Wait, G: Gate>(rt: &R, phase: &Phase<G>, owner: &mut Owner)
-    requires phase { IsPhaseOf owner.old.size phase.now.events.now phase.now.first_packet phase.now.first_update }
+    requires phase { IsPhaseOf owner.old.size phase.now.events.now phase.now.first_packet
+        phase.now.first_update }
     requires can { CanWork phase.now.flows.now phase.now.working.now owner.old }
     requires works { works phase.now.working.now owner.old.number ≡ true }
     ensures { OwnerTook phase.now.flows.now phase.now.events.now phase.now.working.now owner.old owner.new }
@@ -77,17 +78,19 @@ fn works_in(working: &[bool], owner: &Owner) -> bool
     is_working(working, usize::from(owner.number()))
 }
 
-/// Starts the owners that have an update but the last, where so many are left: that one it does itself once it has told that all
-/// are started.
+/// Starts the owners that have an update but the last, where `left` of them are left: that one it does itself once it has told
+/// that all are started.
 fn start_owners<R: Threads + Wait + Sync, G: Gate + Sync>(
     rt: &R,
     phase: &Phase<G>,
     left: u64,
     owners: &mut [Owner],
 )
-    requires phase { Every (λ owner. IsPhaseOf owner.size phase.now.events.now phase.now.first_packet phase.now.first_update) owners.old }
+    requires phase { Every (λ owner. IsPhaseOf owner.size phase.now.events.now phase.now.first_packet
+        phase.now.first_update) owners.old }
     requires can { Every (CanWork phase.now.flows.now phase.now.working.now) owners.old }
-    ensures { Each (OwnerTook phase.now.flows.now phase.now.events.now phase.now.working.now) owners.old owners.new }
+    ensures { Each (OwnerTook phase.now.flows.now phase.now.events.now phase.now.working.now) owners.old
+        owners.new }
 {
     let Some((first, rest)) = owners.split_first_mut() else {
         phase.started.store(1, Ordering::SeqCst);
@@ -107,13 +110,15 @@ fn start_owners<R: Threads + Wait + Sync, G: Gate + Sync>(
             × IsPhaseOf first.now.size phase.now.events.now phase.now.first_packet phase.now.first_update
             × CanWork phase.now.flows.now phase.now.working.now first.now
             × (works phase.now.working.now first.now.number ≡ true) }
-        ensures { OwnerTook phase.entry.now.flows.now phase.entry.now.events.now phase.entry.now.working.now first.entry.now first.exit.now }
+        ensures { OwnerTook phase.entry.now.flows.now phase.entry.now.events.now phase.entry.now.working.now
+            first.entry.now first.exit.now }
     { own(rt, phase, first) };
     let mut here = ||
         requires { IsSync R.row × IsSync G.row
             × Every (λ owner. IsPhaseOf owner.size phase.now.events.now phase.now.first_packet phase.now.first_update) rest.now
             × Every (CanWork phase.now.flows.now phase.now.working.now) rest.now }
-        ensures { Each (OwnerTook phase.entry.now.flows.now phase.entry.now.events.now phase.entry.now.working.now) rest.entry.now rest.exit.now }
+        ensures { Each (OwnerTook phase.entry.now.flows.now phase.entry.now.events.now
+            phase.entry.now.working.now) rest.entry.now rest.exit.now }
     { start_owners(rt, phase, others, rest) };
     join_mut(rt, &mut there, &mut here);
 }
@@ -126,7 +131,8 @@ fn start_lanes<R: Threads + Wait + Sync, G: Gate + Sync>(
     appliers: &mut [Applier],
     lanes: &mut [Lane],
 )
-    requires { Every (λ lane. IsPhaseOf lane.size phase.now.events.now phase.now.first_packet phase.now.first_update) lanes.old }
+    requires { Every (λ lane. IsPhaseOf lane.size phase.now.events.now phase.now.first_packet
+        phase.now.first_update) lanes.old }
     ensures lanes { Each (LaneDid phase.now.first_packet phase.now.events.now) lanes.old lanes.new }
     ensures appliers { Each (ApplierDid phase.now.working.now) appliers.old appliers.new }
 {
@@ -136,12 +142,14 @@ fn start_lanes<R: Threads + Wait + Sync, G: Gate + Sync>(
     let mut there = ||
         requires { IsSync R.row × IsSync G.row
             × IsPhaseOf first.now.size phase.now.events.now phase.now.first_packet phase.now.first_update }
-        ensures { LaneDid phase.entry.now.first_packet phase.entry.now.events.now first.entry.now first.exit.now }
+        ensures { LaneDid phase.entry.now.first_packet phase.entry.now.events.now first.entry.now
+            first.exit.now }
     { answer(rt, phase, first) };
     let mut here = ||
         requires { IsSync R.row × IsSync G.row
             × Every (λ lane. IsPhaseOf lane.size phase.now.events.now phase.now.first_packet phase.now.first_update) rest.now }
-        ensures { Each (LaneDid phase.entry.now.first_packet phase.entry.now.events.now) rest.entry.now rest.exit.now
+        ensures { Each (LaneDid phase.entry.now.first_packet phase.entry.now.events.now) rest.entry.now
+            rest.exit.now
             × Each (ApplierDid phase.entry.now.working.now) appliers.entry.now appliers.exit.now }
     { start_lanes(rt, phase, threads, appliers, rest) };
     join_mut(rt, &mut there, &mut here);
@@ -155,7 +163,7 @@ fn answer<R: Wait, G: Gate>(rt: &R, phase: &Phase<G>, lane: &mut Lane)
     lane.work(rt, phase.gate, phase.events, phase.first_packet);
 }
 
-/// Deals the nodes to so many threads and starts these but the last, whose nodes it does itself.
+/// Deals the nodes to threads and starts these but the last, whose nodes it does itself.
 #[tactic(auto, using(crate::proofs::Crews::each_of_parts))]
 fn start_appliers<R: Threads + Wait + Sync, G: Gate + Sync>(
     rt: &R,
@@ -202,7 +210,8 @@ fn start_lanes_alone<R: Threads + Wait + Sync, G: Gate + Sync>(
     phase: &Phase<G>,
     lanes: &mut [Lane],
 )
-    requires { Every (λ lane. IsPhaseOf lane.size phase.now.events.now phase.now.first_packet phase.now.first_update) lanes.old }
+    requires { Every (λ lane. IsPhaseOf lane.size phase.now.events.now phase.now.first_packet
+        phase.now.first_update) lanes.old }
     ensures { Each (LaneDid phase.now.first_packet phase.now.events.now) lanes.old lanes.new }
 {
     let Some((first, rest)) = lanes.split_first_mut() else {
@@ -214,12 +223,14 @@ fn start_lanes_alone<R: Threads + Wait + Sync, G: Gate + Sync>(
     let mut there = ||
         requires { IsSync R.row × IsSync G.row
             × IsPhaseOf first.now.size phase.now.events.now phase.now.first_packet phase.now.first_update }
-        ensures { LaneDid phase.entry.now.first_packet phase.entry.now.events.now first.entry.now first.exit.now }
+        ensures { LaneDid phase.entry.now.first_packet phase.entry.now.events.now first.entry.now
+            first.exit.now }
     { answer(rt, phase, first) };
     let mut here = ||
         requires { IsSync R.row × IsSync G.row
             × Every (λ lane. IsPhaseOf lane.size phase.now.events.now phase.now.first_packet phase.now.first_update) rest.now }
-        ensures { Each (LaneDid phase.entry.now.first_packet phase.entry.now.events.now) rest.entry.now rest.exit.now }
+        ensures { Each (LaneDid phase.entry.now.first_packet phase.entry.now.events.now) rest.entry.now
+            rest.exit.now }
     { start_lanes_alone(rt, phase, rest) };
     join_mut(rt, &mut there, &mut here);
 }
@@ -234,17 +245,21 @@ fn start_all<R: Threads + Wait + Sync, G: Gate + Sync>(
     lanes: &mut [Lane],
     owners: &mut [Owner],
 )
-    requires lanes { Every (λ lane. IsPhaseOf lane.size phase.now.events.now phase.now.first_packet phase.now.first_update) lanes.old }
-    requires owners { Every (λ owner. IsPhaseOf owner.size phase.now.events.now phase.now.first_packet phase.now.first_update) owners.old }
+    requires lanes { Every (λ lane. IsPhaseOf lane.size phase.now.events.now phase.now.first_packet
+        phase.now.first_update) lanes.old }
+    requires owners { Every (λ owner. IsPhaseOf owner.size phase.now.events.now phase.now.first_packet
+        phase.now.first_update) owners.old }
     requires can { Every (CanWork phase.now.flows.now phase.now.working.now) owners.old }
-    ensures owners { Each (OwnerTook phase.now.flows.now phase.now.events.now phase.now.working.now) owners.old owners.new }
+    ensures owners { Each (OwnerTook phase.now.flows.now phase.now.events.now phase.now.working.now)
+        owners.old owners.new }
     ensures lanes { Each (LaneDid phase.now.first_packet phase.now.events.now) lanes.old lanes.new }
     ensures appliers { Each (ApplierDid phase.now.working.now) appliers.old appliers.new }
 {
     let mut there = ||
         requires { IsSync R.row × IsSync G.row
             × Every (λ lane. IsPhaseOf lane.size phase.now.events.now phase.now.first_packet phase.now.first_update) lanes.now }
-        ensures { Each (LaneDid phase.entry.now.first_packet phase.entry.now.events.now) lanes.entry.now lanes.exit.now
+        ensures { Each (LaneDid phase.entry.now.first_packet phase.entry.now.events.now) lanes.entry.now
+            lanes.exit.now
             × Each (ApplierDid phase.entry.now.working.now) appliers.entry.now appliers.exit.now }
     {
         wait(rt, &phase.started);
@@ -254,7 +269,8 @@ fn start_all<R: Threads + Wait + Sync, G: Gate + Sync>(
         requires { IsSync R.row × IsSync G.row
             × Every (λ owner. IsPhaseOf owner.size phase.now.events.now phase.now.first_packet phase.now.first_update) owners.now
             × Every (CanWork phase.now.flows.now phase.now.working.now) owners.now }
-        ensures { Each (OwnerTook phase.entry.now.flows.now phase.entry.now.events.now phase.entry.now.working.now) owners.entry.now owners.exit.now }
+        ensures { Each (OwnerTook phase.entry.now.flows.now phase.entry.now.events.now
+            phase.entry.now.working.now) owners.entry.now owners.exit.now }
     { start_owners(rt, phase, phase.owners, owners) };
     join_mut(rt, &mut there, &mut here);
 }
@@ -268,11 +284,14 @@ pub(crate) fn run<R: Threads + Wait + Sync, G: Gate + Sync>(
     lanes: &mut [Lane],
     owners: &mut [Owner],
 )
-    requires lanes { Every (λ lane. IsPhaseOf lane.size phase.now.events.now phase.now.first_packet phase.now.first_update) lanes.old }
-    requires owners { Every (λ owner. IsPhaseOf owner.size phase.now.events.now phase.now.first_packet phase.now.first_update) owners.old }
+    requires lanes { Every (λ lane. IsPhaseOf lane.size phase.now.events.now phase.now.first_packet
+        phase.now.first_update) lanes.old }
+    requires owners { Every (λ owner. IsPhaseOf owner.size phase.now.events.now phase.now.first_packet
+        phase.now.first_update) owners.old }
     requires can { Every (CanWork phase.now.flows.now phase.now.working.now) owners.old }
     requires counted { phase.now.owners ≡ 0 → (owner : ℕ) → works phase.now.working.now owner ≡ false }
-    ensures owners { Each (OwnerTook phase.now.flows.now phase.now.events.now phase.now.working.now) owners.old owners.new }
+    ensures owners { Each (OwnerTook phase.now.flows.now phase.now.events.now phase.now.working.now)
+        owners.old owners.new }
     ensures lanes { Each (LaneDid phase.now.first_packet phase.now.events.now) lanes.old lanes.new }
     ensures appliers { Each (ApplierDid phase.now.working.now) appliers.old appliers.new }
 {

@@ -24,7 +24,7 @@ pub(crate) fn working_owners(
     Ok(working)
 }
 
-/// So many owners, of which none works.
+/// The marks of owners of which none works yet.
 fn none_works(alloc: Global, nodes: u16) -> Result<Vec<bool>, OutOfMemory>
     ensures { IfOk result (λ working. working.items ≡ replicate nodes false) }
 {

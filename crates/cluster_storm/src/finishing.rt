@@ -23,7 +23,8 @@ fn finish_one<R: Wait, G: Gate>(
 ) -> bool
     requires awaits { Awaits flows.now working.now appliers.old owner.old }
     ensures kept { owner.new ≡ owner.old }
-    ensures finishes { (appliers.new ≡ appliers.old) ⊎ Each (Finishes owner.old.number) appliers.old appliers.new }
+    ensures finishes { (appliers.new ≡ appliers.old) ⊎ Each (Finishes owner.old.number) appliers.old
+        appliers.new }
     ensures quiet { result ≡ true → Every (IsQuietAt flows.now owner.old) appliers.new }
 {
     if !is_working(working, usize::from(owner.number())) {
@@ -50,7 +51,8 @@ pub(crate) fn finish_all<R: Wait, G: Gate>(
     ensures kept { owners.new ≡ owners.old }
     ensures parts { Each KeepsParts appliers.old appliers.new }
     ensures before { Each (KeepsBefore first) appliers.old appliers.new }
-    ensures quiet { result ≡ true → Every (λ owner. Every (IsQuietAt flows.now owner) appliers.new) owners.old }
+    ensures quiet { result ≡ true → Every (λ owner. Every (IsQuietAt flows.now owner) appliers.new)
+        owners.old }
 {
     let Some((owner, others)) = owners.split_first_mut() else {
         return true;

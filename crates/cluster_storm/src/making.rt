@@ -1,7 +1,7 @@
 //! How a storm is made of its cluster's parts: its seats, its lanes, and the links between owners and nodes.
 ghost use Rattle.std.specs.Prelude.{◌≡◌, ◌+◌, ◌<◌, ◌≤◌, ◌^◌, IfOk, OnOk, length, map, min, true};
 ghost use Rattle.cluster_open.specs.Opened.{AreOpenedNodes, AreOpenedSenders};
-ghost use Rattle.replay_model.specs.Laws.{CanBeOpened, no_journals};
+ghost use Rattle.run_model.specs.Laws.{CanBeOpened, no_journals};
 ghost use Rattle.storm_lane.specs.Lane.{AreWhole, all_seats};
 ghost use Rattle.turn_relay.specs.Each.{AllFrom, Each, Every};
 ghost use Rattle.turn_relay.specs.Finish.{IsQuietAt};
@@ -24,10 +24,10 @@ use std::alloc::Global;
 use std::sync::Wait;
 use std::thread::{Threads, available_parallelism};
 use storm_lane::{Lane, OwnerReaders};
+use turn_log::Sender;
 use turn_relay::{Applier, Owner, close_all, link};
-use turn_sender::Sender;
 
-/// The storm of a cluster that was opened with these flows, with so many lanes.
+/// The storm of a cluster that was opened with these flows, with this number of lanes.
 ///
 /// Only owners that have an update in the script are linked to the nodes.
 ///
@@ -49,7 +49,8 @@ pub(crate) fn make_storm<R: Threads + Wait>(
     ensures opened { IfOk result (λ storm. opening_of storm ≡ record { size = shape; flows = flows }) }
     ensures linked { IfOk result (λ storm. AreLinkedFor storm script.now) }
     ensures lanes { IfOk result (λ storm. length storm.lanes ≡ lanes) }
-    ensures new { IfOk result (λ storm. journals_in storm.size storm.owners ≡ no_journals (opening_of storm)) }
+    ensures new { IfOk result (λ storm. journals_in storm.size storm.owners ≡ no_journals
+        (opening_of storm)) }
 {
     let ClusterParts { owners, nodes } = parts;
     let mut owners = owners_of(alloc, shape, owners)?;
@@ -126,10 +127,25 @@ fn join(
     requires nodes { AreFreshNodes shape flows.now appliers.old }
     requires lanes { length readers.items ≡ lanes }
     requires readers { Every (λ own. ReadsAll shape appliers.old own.items) readers.items }
-    ensures rests { IfOk result (λ made. IsAtRest (record { size = shape; flows = flows.now; owners = owners.new; appliers = appliers.new; lanes = made.items })) }
-    ensures linked { IfOk result (λ made. AreLinkedFor (record { size = shape; flows = flows.now; owners = owners.new; appliers = appliers.new; lanes = made.items }) script.now) }
+    ensures rests { IfOk result (λ made. IsAtRest
+        (record {
+          size = shape;
+          flows = flows.now;
+          owners = owners.new;
+          appliers = appliers.new;
+          lanes = made.items;
+        })) }
+    ensures linked { IfOk result (λ made. AreLinkedFor
+        (record {
+          size = shape;
+          flows = flows.now;
+          owners = owners.new;
+          appliers = appliers.new;
+          lanes = made.items;
+        }) script.now) }
     ensures lanes { IfOk result (λ made. length made.items ≡ lanes) }
-    ensures new { OnOk result (journals_in shape owners.new ≡ no_journals (record { size = shape; flows = flows.now })) }
+    ensures new { OnOk result (journals_in shape owners.new ≡ no_journals
+        (record { size = shape; flows = flows.now })) }
 {
     let changing = working_owners(alloc, shape, script)?;
     link_all(alloc, flows, changing.as_slice(), 0, owners, appliers)?;
@@ -180,7 +196,8 @@ fn link_all(
     ensures parts { OnOk result (Each KeepsTables appliers.old appliers.new) }
     ensures before { OnOk result (Each (KeepsBefore first) appliers.old appliers.new) }
     ensures quiet { OnOk result (Every (λ owner. Every (IsQuietAt flows.now owner) appliers.new) owners.new) }
-    ensures linked { OnOk result (Every (λ owner. works changing.now owner.number ≡ true → HasLinks owner) owners.new) }
+    ensures linked { OnOk result (Every (λ owner. works changing.now owner.number ≡ true → HasLinks owner)
+        owners.new) }
 {
     let Some((owner, others)) = owners.split_first_mut() else {
         return Ok(());
@@ -198,7 +215,8 @@ fn lanes_of(
 ) -> Result<Vec<Lane>, OutOfMemory>
     requires lanes { length readers.items ≡ lanes }
     requires whole { Every (λ own. AreWhole shape (all_seats own.items)) readers.items }
-    ensures of { IfOk result (λ made. map (λ lane. lane.readers) made.items ≡ map (λ own. own.items) readers.items) }
+    ensures of { IfOk result (λ made. map (λ lane. lane.readers) made.items ≡ map (λ own. own.items)
+        readers.items) }
     ensures numbered { IfOk result (λ made. AllFrom (IsLaneOf shape lanes) 0 made.items) }
 {
     let mut made = Vec::with_capacity(alloc, usize::from(lanes))?;

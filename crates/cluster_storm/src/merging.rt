@@ -8,7 +8,7 @@ use flow_types::{FlowKey, Shape};
 use hash_family::place;
 use out_of_memory::OutOfMemory;
 use packet_reader::Event;
-use replay_model::Reply;
+use run_model::Reply;
 use std::marker::Model;
 
 /// The replies that a worker has still to give, in their order.
@@ -20,7 +20,7 @@ pub(crate) struct Queue {
 
 impl Model for Queue {
     ghost use Rattle.std.specs.Prelude.{List, drop};
-    ghost use Rattle.replay_model.specs.declared.reply.Reply.{Reply};
+    ghost use Rattle.run_model.specs.declared.reply.Reply.{Reply};
 
     ghost Value = { List Reply };
 
@@ -84,8 +84,10 @@ fn take_one(
     requires some { 0 < lanes }
     requires lanes { length by_lane.old ≡ lanes }
     requires owners { length owners.old ≡ shape.nodes }
-    requires can { (script : List Event) × CanMerge shape lanes (queues_of owners.old) (queues_of by_lane.old) packet (event.now ∷ script) }
-    ensures takes { TakesOne shape lanes event.now result (queues_of owners.old) (queues_of by_lane.old) (queues_of owners.new) (queues_of by_lane.new)
+    requires can { (script : List Event) × CanMerge shape lanes (queues_of owners.old)
+        (queues_of by_lane.old) packet (event.now ∷ script) }
+    ensures takes { TakesOne shape lanes event.now result (queues_of owners.old) (queues_of by_lane.old)
+        (queues_of owners.new) (queues_of by_lane.new)
         packet (packets_after packet (event.now ∷ [])) }
     ensures lanes { length by_lane.new ≡ lanes }
     ensures owners { length owners.new ≡ shape.nodes }
@@ -138,7 +140,8 @@ pub(crate) fn merge(
     requires lanes { length by_lane.old ≡ lanes }
     requires owners { length owners.old ≡ shape.nodes }
     requires can { CanMerge shape lanes (queues_of owners.old) (queues_of by_lane.old) first events.now }
-    ensures { OnOk result (MergesBehind shape lanes (queues_of owners.old) (queues_of by_lane.old) first events.now replies.old.items replies.new.items) }
+    ensures { OnOk result (MergesBehind shape lanes (queues_of owners.old) (queues_of by_lane.old) first
+        events.now replies.old.items replies.new.items) }
 {
     let mut packet = first;
     'events: for event in events {

@@ -1,6 +1,6 @@
 //! A phase of a storm: its threads, what they left in the links, what the lanes are told, and the replies of all.
 ghost use Rattle.std.specs.Prelude.{◌≡◌, ◌+◌, ◌<◌, ◌^◌, All, ℕ, OnOk, false, length};
-ghost use Rattle.replay_model.specs.Laws.{IsRow};
+ghost use Rattle.run_model.specs.Laws.{IsRow};
 ghost use Rattle.storm_model.specs.Phase.{IsOnePhase};
 ghost use Rattle.turn_relay.specs.Follow.{works};
 ghost use Rattle.cluster_storm.specs.Dealing.{WorkAlone};
@@ -16,7 +16,7 @@ use crate::taking::{have_all_worked, lanes_replies, owners_replies};
 use flow_types::{Flow, Shape};
 use out_of_memory::OutOfMemory;
 use packet_reader::Event;
-use replay_model::Reply;
+use run_model::Reply;
 use sb_io::Gate;
 use std::alloc::Global;
 use std::sync::Wait;
@@ -45,7 +45,8 @@ pub(crate) fn run_phase<R: Threads + Wait + Sync, G: Gate + Sync>(
     requires one { IsOnePhase events.now }
     requires rows { All (IsRow (opening_of storm.old)) events.now }
     requires linked { AreLinkedFor storm.old events.now }
-    ensures worked { OnOk result (IsWorked storm.old storm.new events.now first_packet replies.old.items replies.new.items) }
+    ensures worked { OnOk result (IsWorked storm.old storm.new events.now first_packet replies.old.items
+        replies.new.items) }
 {
     let working = working_owners(alloc, storm.shape, events)?;
     let phase = Phase {
@@ -85,12 +86,24 @@ fn work<R: Threads + Wait + Sync, G: Gate + Sync>(
     lanes: &mut [Lane],
     replies: &mut Vec<Reply>,
 ) -> Result<(), OutOfMemory>
-    requires rests { IsAtRest (record { size = shape; flows = phase.now.flows.now; owners = owners.old; appliers = appliers.old; lanes = lanes.old }) }
+    requires rests { IsAtRest (record {
+      size = shape;
+      flows = phase.now.flows.now;
+      owners = owners.old;
+      appliers = appliers.old;
+      lanes = lanes.old;
+    }) }
     requires few_packets { phase.now.first_packet + length phase.now.events.now < 2 ^ 32 }
     requires few_updates { phase.now.first_update + length phase.now.events.now < 2 ^ 32 }
     requires one { IsOnePhase phase.now.events.now }
     requires rows { All (IsRow (record { size = shape; flows = phase.now.flows.now })) phase.now.events.now }
-    requires linked { AreLinkedFor (record { size = shape; flows = phase.now.flows.now; owners = owners.old; appliers = appliers.old; lanes = lanes.old }) phase.now.events.now }
+    requires linked { AreLinkedFor (record {
+      size = shape;
+      flows = phase.now.flows.now;
+      owners = owners.old;
+      appliers = appliers.old;
+      lanes = lanes.old;
+    }) phase.now.events.now }
     requires working { WorkAlone shape phase.now.events.now phase.now.working.now }
     requires counted { phase.now.owners ≡ 0 → (owner : ℕ) → works phase.now.working.now owner ≡ false }
     ensures worked { OnOk result (IsWorked

@@ -2,7 +2,7 @@
 ghost use Rattle.std.specs.Prelude.{◌≡◌, ◌↔◌, ◌+◌, ◌<◌, ◌≤◌, ◌^◌, ◌∷◌, [], All, IfOk, IsTrue, drop, length, take};
 ghost use Rattle.packet_reader.specs.declared.event.Event.TheVariants.{Sync};
 ghost use Rattle.packet_reader.specs.declared.mode.Mode.TheVariants as mode;
-ghost use Rattle.replay_model.specs.Laws.{IsRow, no_journals};
+ghost use Rattle.run_model.specs.Laws.{IsRow, no_journals};
 ghost use Rattle.storm_model.specs.Phase.{BreaksOff, IsOnePhase, packets_after};
 ghost use Rattle.storm_model.specs.Storm.{IsNoCarry};
 ghost use Rattle.cluster_open.specs.Runs.{AreRunReplies};
@@ -12,7 +12,7 @@ use crate::phase::run_phase;
 use crate::stage::Storm;
 use out_of_memory::OutOfMemory;
 use packet_reader::Event;
-use replay_model::Reply;
+use run_model::Reply;
 use sb_io::Gate;
 use std::alloc::Global;
 use std::sync::Wait;
@@ -41,7 +41,8 @@ pub(crate) fn run_storm<R: Threads + Wait + Sync, G: Gate + Sync>(
     requires carries { All IsNoCarry script.now }
     requires rows { All (IsRow (opening_of storm.old)) script.now }
     requires linked { AreLinkedFor storm.old script.now }
-    ensures { IfOk result (λ replies. AreRunReplies mode.Storm (length storm.old.lanes) (opening_of storm.old) script.now replies.items) }
+    ensures { IfOk result (λ replies. AreRunReplies mode.Storm (length storm.old.lanes)
+        (opening_of storm.old) script.now replies.items) }
 {
     let mut replies = Vec::with_capacity(alloc, script.len())?;
     let mut next = Numbers {

@@ -2,7 +2,7 @@
 ghost use Rattle.std.specs.Prelude.{◌≤◌, ◌<◌, ◌^◌, ℕ, List, All, IfOk, length};
 ghost use Rattle.flow_types.specs.Input.{most_octets};
 ghost use Rattle.packet_reader.specs.declared.mode.Mode.TheVariants.{Storm};
-ghost use Rattle.replay_model.specs.Laws.{CanBeOpened, IsRow};
+ghost use Rattle.run_model.specs.Laws.{CanBeOpened, IsRow};
 ghost use Rattle.storm_model.specs.Storm.{IsNoCarry};
 ghost use Rattle.cluster_open.specs.Input.{opened};
 ghost use Rattle.cluster_open.specs.Opened.{AreOpenedNodes, AreOpenedSenders};
@@ -11,19 +11,19 @@ ghost use Rattle.cluster_open.specs.Runs.{AnswersRun, AreRunReplies};
 
 use crate::making::make_storm;
 use crate::phases::run_storm;
-use cluster_open::{ClusterParts, InputFault, InputRows, open_parts, read_rows, read_vec};
+use cluster_open::{ClusterParts, InputFault, InputRows, open_parts, read_rows};
 use flow_reader::Opening;
 use out_of_memory::OutOfMemory;
 use packet_reader::{Event, Mode};
-use replay_model::Reply;
+use run_model::Reply;
 use run_report::report;
 use sb_io::Gate;
 use std::alloc::Global;
 use std::sync::Wait;
 use std::thread::Threads;
 
-/// The printed run of an input by threads: the rows up to `begin` are read, then the script, the table is built, so many lanes
-/// answer the packets while owners accept the updates, and the report prints the replies. The fault is the first row that
+/// The printed run of an input by threads: the rows up to `begin` are read, then the script, the table is built, lanes answer
+/// the packets while owners accept the updates, and the report prints the replies. The fault is the first row that
 /// breaks a rule, or else the first block that is past a limit.
 ///
 /// `workers` threads build the table, 1..=64, and there are 1..=8 lanes: they change what may be printed in nothing but
@@ -44,35 +44,13 @@ pub fn storm<R: Threads + Wait + Sync, G: Gate + Sync>(
     ensures { AnswersRun Storm lanes bytes.now result }
 {
     match read_rows(alloc, bytes, Mode::Storm) {
-        Ok(input) => print_input(rt, alloc, input, workers, lanes, gate),
+        Ok(input) => storm_input(rt, alloc, input, workers, lanes, gate),
         Err(fault) => Err(fault),
     }
 }
 
-/// What `storm` answers for the octets, which are freed once they are read: before the table is built.
-pub fn storm_vec<R: Threads + Wait + Sync, G: Gate + Sync>(
-    rt: &R,
-    alloc: Global,
-    bytes: Vec<u8>,
-    workers: u8,
-    lanes: u8,
-    gate: &G,
-) -> Result<Vec<u8>, InputFault>
-    requires some_worker { 1 ≤ workers }
-    requires few_workers { workers ≤ 64 }
-    requires some_lane { 1 ≤ lanes }
-    requires few_lanes { lanes ≤ 8 }
-    requires limit { length bytes.items ≤ most_octets }
-    ensures { AnswersRun Storm lanes bytes.items result }
-{
-    match read_vec(alloc, bytes, Mode::Storm) {
-        Ok(input) => print_input(rt, alloc, input, workers, lanes, gate),
-        Err(fault) => Err(fault),
-    }
-}
-
-/// The printed run of an input that was read.
-fn print_input<R: Threads + Wait + Sync, G: Gate + Sync>(
+/// What `storm` answers for the octets of which this input was read. A caller that owns the octets can free them before.
+pub fn storm_input<R: Threads + Wait + Sync, G: Gate + Sync>(
     rt: &R,
     alloc: Global,
     input: InputRows,
@@ -84,7 +62,8 @@ fn print_input<R: Threads + Wait + Sync, G: Gate + Sync>(
     requires few_workers { workers ≤ 64 }
     requires some_lane { 1 ≤ lanes }
     requires read { (octets : List ℕ) × IsReadFrom Storm octets input.opening input.script.items }
-    ensures { (octets : List ℕ) → IsReadFrom Storm octets input.opening input.script.items → AnswersRun Storm lanes octets result }
+    ensures { (octets : List ℕ) → IsReadFrom Storm octets input.opening input.script.items →
+        AnswersRun Storm lanes octets result }
 {
     let InputRows { opening, script } = input;
     let parts = match open_parts(rt, alloc, &opening, workers) {

@@ -4,7 +4,7 @@ ghost use Rattle.std.specs.List.{slice_get};
 ghost use Rattle.cluster_open.specs.Opened.{AreOpenedNodes, IsOpenedNode};
 ghost use Rattle.partial_fib.specs.Ends.{reader_told};
 ghost use Rattle.turn_relay.specs.Each.{Each, Every, HasAt};
-ghost use Rattle.storm_model.specs.Lists.{owners_in};
+ghost use Rattle.flow_types.specs.Size.{owners_in};
 ghost use Rattle.turn_relay.specs.Linking.{IsFresh};
 ghost use Rattle.turn_relay.specs.PartState.{PartState};
 ghost use Rattle.cluster_storm.specs.Opening.{AreFreshNodes, IsFreshNode, ReadsAll};
@@ -47,7 +47,8 @@ fn give_lanes(
     requires told { fibs.old.items ≡ replicate (length lanes.old) (reader_told part.old.fib) }
     requires awaits { Every (λ lane. HasAt owner (AwaitsPart part.old) lane.items) lanes.old }
     ensures kept { part.new ≡ part.old }
-    ensures given { OnOk result (Each (λ before after. TakesPart owner part.old before.items after.items) lanes.old lanes.new) }
+    ensures given { OnOk result (Each (λ before after. TakesPart owner part.old before.items after.items)
+        lanes.old lanes.new) }
 {
     let Some((lane, others)) = lanes.split_first_mut() else {
         return Ok(());
@@ -59,7 +60,7 @@ fn give_lanes(
     give_lanes(owner, part, fibs, others)
 }
 
-/// The owner's part of a node with this table and this FIB, and so many readers of the FIB.
+/// The owner's part of a node with this table and this FIB, and readers of the FIB, as many as there are lanes.
 fn make_part<R: Wait>(
     rt: &R,
     alloc: Global,
@@ -97,7 +98,8 @@ fn seat_part<R: Wait>(
     requires fib { IsNewFib shape owner fib }
     requires next { Every (λ lane. HasAt owner (IsReadTo shape owner fib.node) lane.items) lanes.old }
     ensures part { IfOk result (IsNewPart shape owner table fib) }
-    ensures given { IfOk result (λ part. Each (λ before after. TakesPart owner part before.items after.items) lanes.old lanes.new) }
+    ensures given { IfOk result (λ part. Each (λ before after. TakesPart owner part before.items after.items)
+        lanes.old lanes.new) }
 {
     let readers = lanes.len() as u8;
     let (mut part, mut readers) = make_part(rt, alloc, shape, owner, table, fib, readers)?;
@@ -125,12 +127,15 @@ fn seat_parts<R: Wait>(
     requires node { IsOpenedNode shape flows.now (length appliers.now) node }
     requires reads { Every (λ lane. ReadsSoFar shape (column appliers.now) lane.items) lanes.old }
     ensures many { IfOk result (λ parts. length parts.items ≡ owners_in shape) }
-    ensures fresh { IfOk result (λ parts. (owner : ℕ) (part : PartState) → slice_get parts.items owner ≡ Some part → IsFresh shape flows.now (length appliers.now) owner part) }
-    ensures reads { IfOk result (λ parts. Every (λ lane. ReadsSoFar shape (column_with appliers.now parts.items) lane.items) lanes.new) }
+    ensures fresh { IfOk result (λ parts. (owner : ℕ) (part : PartState) →
+        slice_get parts.items owner ≡ Some part → IsFresh shape flows.now (length appliers.now) owner part) }
+    ensures reads { IfOk result (λ parts. Every
+        (λ lane. ReadsSoFar shape (column_with appliers.now parts.items) lane.items) lanes.new) }
 {
+    // Only the contract speaks of the flows and of the nodes before this one.
     let _ = flows;
     let _ = appliers;
-    let owners = shape.nodes().min(shape.blocks()) as u8;
+    let owners = shape.owners();
     let mut parts = Vec::with_capacity(alloc, usize::from(owners))?;
     let mut tables = node.tables.into_iter();
     let mut fibs = node.fibs.into_iter();
@@ -168,7 +173,8 @@ fn seat_node<R: Wait>(
     requires node { IsOpenedNode shape flows.now (length appliers.now) node }
     requires reads { Every (λ lane. ReadsSoFar shape (column appliers.now) lane.items) lanes.old }
     ensures fresh { IfOk result (IsFreshNode shape flows.now (length appliers.now)) }
-    ensures reads { IfOk result (λ applier. Every (λ lane. ReadsSoFar shape (column (appliers.now ++ applier ∷ [])) lane.items) lanes.new) }
+    ensures reads { IfOk result (λ applier. Every
+        (λ lane. ReadsSoFar shape (column (appliers.now ++ applier ∷ [])) lane.items) lanes.new) }
 {
     numbers_of_a_shape(shape);
     let number = appliers.len() as u8;
@@ -193,7 +199,8 @@ fn seat_nodes<R: Wait>(
     requires nodes { AreOpenedNodes shape flows.now nodes.items }
     requires reads { Every (λ lane. ReadsSoFar shape (column []) lane.items) lanes.old }
     ensures fresh { IfOk result (λ appliers. AreFreshNodes shape flows.now appliers.items) }
-    ensures reads { IfOk result (λ appliers. Every (λ lane. ReadsSoFar shape (column appliers.items) lane.items) lanes.new) }
+    ensures reads { IfOk result (λ appliers. Every
+        (λ lane. ReadsSoFar shape (column appliers.items) lane.items) lanes.new) }
 {
     let mut appliers = Vec::with_capacity(alloc, nodes.len())?;
     'nodes: for node in nodes {
@@ -212,7 +219,7 @@ fn seat_nodes<R: Wait>(
 fn empty_lane(alloc: Global, shape: Shape) -> Result<Vec<OwnerReaders>, OutOfMemory>
     ensures { IfOk result (λ lane. ReadsSoFar shape (column []) lane.items) }
 {
-    let owners = shape.nodes().min(shape.blocks()) as u8;
+    let owners = shape.owners();
     let mut lane = Vec::with_capacity(alloc, usize::from(owners))?;
     'owners: for owner in 0..owners {
         lane.push_reserved(OwnerReaders::new(alloc, shape, owner));
@@ -220,7 +227,7 @@ fn empty_lane(alloc: Global, shape: Shape) -> Result<Vec<OwnerReaders>, OutOfMem
     Ok(lane)
 }
 
-/// So many lanes that have no readers yet.
+/// Lanes that have no readers yet.
 fn empty_lanes(
     alloc: Global,
     shape: Shape,
@@ -251,7 +258,8 @@ pub(crate) fn seat<R: Wait>(
     requires nodes { AreOpenedNodes shape flows.now nodes.items }
     ensures nodes { IfOk result (λ made. AreFreshNodes shape flows.now made.0.items) }
     ensures lanes { IfOk result (λ made. length made.1.items ≡ lanes) }
-    ensures readers { IfOk result (λ made. Every (λ readers. ReadsAll shape made.0.items readers.items) made.1.items) }
+    ensures readers { IfOk result (λ made. Every (λ readers. ReadsAll shape made.0.items readers.items)
+        made.1.items) }
 {
     let mut readers = empty_lanes(alloc, shape, lanes)?;
     let appliers = seat_nodes(rt, alloc, shape, flows, nodes, readers.as_mut_slice())?;

@@ -22,7 +22,8 @@ pub(crate) fn owners_replies(
 ) -> Result<Vec<Queue>, OutOfMemory>
     requires few { length owners.old ≤ nodes }
     ensures many { IfOk result (λ queues. length queues.items ≡ nodes) }
-    ensures queues { IfOk result (λ queues. (number : ℕ) → queues_of queues.items number ≡ replies_of_owner (slice_get owners.old number)) }
+    ensures queues { IfOk result (λ queues. (number : ℕ) → queues_of queues.items number ≡ replies_of_owner
+        (slice_get owners.old number)) }
     ensures left { OnOk result (Each HasGiven owners.old owners.new) }
 {
     let mut queues = Vec::with_capacity(alloc, usize::from(nodes))?;
@@ -37,7 +38,8 @@ fn give_owners(
     owners: &mut [Owner],
     queues: &mut Vec<Queue>,
 ) -> Result<(), OutOfMemory>
-    ensures queues { OnOk result (queues.new.items ≡ queues.old.items ++ map (λ owner. owner.replies) owners.old) }
+    ensures queues { OnOk result (queues.new.items ≡ queues.old.items ++ map (λ owner. owner.replies)
+        owners.old) }
     ensures left { OnOk result (Each HasGiven owners.old owners.new) }
 {
     let Some((first, others)) = owners.split_first_mut() else {
@@ -47,11 +49,12 @@ fn give_owners(
     give_owners(alloc, others, queues)
 }
 
-/// Empty queues are behind the others, up to so many.
+/// Empty queues are behind the others, so that there are `many`.
 fn pad(alloc: Global, many: usize, queues: &mut Vec<Queue>) -> Result<(), OutOfMemory>
     requires few { length queues.old.items ≤ many }
     ensures many { OnOk result (length queues.new.items ≡ many) }
-    ensures same { OnOk result ((number : ℕ) → queues_of queues.new.items number ≡ queues_of queues.old.items number) }
+    ensures same { OnOk result ((number : ℕ) → queues_of queues.new.items number ≡ queues_of queues.old.items
+        number) }
 {
     'empty: for _ in queues.len()..many {
         queues.push(Queue::new(Vec::new(alloc)))?;
@@ -65,7 +68,8 @@ fn pad(alloc: Global, many: usize, queues: &mut Vec<Queue>) -> Result<(), OutOfM
 #[tactic(auto, using(crate::proofs::Takings::queues_of_lanes))]
 pub(crate) fn lanes_replies(alloc: Global, lanes: &mut [Lane]) -> Result<Vec<Queue>, OutOfMemory>
     ensures many { IfOk result (λ queues. length queues.items ≡ length lanes.old) }
-    ensures queues { IfOk result (λ queues. (number : ℕ) → queues_of queues.items number ≡ replies_of_lane (slice_get lanes.old number)) }
+    ensures queues { IfOk result (λ queues. (number : ℕ) → queues_of queues.items number ≡ replies_of_lane
+        (slice_get lanes.old number)) }
     ensures left { OnOk result (Each HasGivenLane lanes.old lanes.new) }
 {
     let mut queues = Vec::with_capacity(alloc, lanes.len())?;
@@ -75,7 +79,8 @@ pub(crate) fn lanes_replies(alloc: Global, lanes: &mut [Lane]) -> Result<Vec<Que
 
 /// Each lane's replies are behind the queues.
 fn give_lanes(alloc: Global, lanes: &mut [Lane], queues: &mut Vec<Queue>) -> Result<(), OutOfMemory>
-    ensures queues { OnOk result (queues.new.items ≡ queues.old.items ++ map (λ lane. lane.replies) lanes.old) }
+    ensures queues { OnOk result (queues.new.items ≡ queues.old.items ++ map (λ lane. lane.replies)
+        lanes.old) }
     ensures left { OnOk result (Each HasGivenLane lanes.old lanes.new) }
 {
     let Some((first, others)) = lanes.split_first_mut() else {
@@ -87,7 +92,8 @@ fn give_lanes(alloc: Global, lanes: &mut [Lane], queues: &mut Vec<Queue>) -> Res
 
 /// Whether no worker met want of memory.
 pub(crate) fn have_all_worked(owners: &[Owner], lanes: &[Lane]) -> bool
-    ensures { result ≡ true → Every (λ owner. owner.failed ≡ false) owners.now × Every (λ lane. lane.failed ≡ false) lanes.now }
+    ensures { result ≡ true → Every (λ owner. owner.failed ≡ false) owners.now ×
+        Every (λ lane. lane.failed ≡ false) lanes.now }
 {
     have_owners_worked(owners) && have_lanes_worked(lanes)
 }

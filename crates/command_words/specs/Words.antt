@@ -7,12 +7,12 @@ use Rattle.clap.specs.Walk.{Row, Rule, Text, first_of, is_empty}
 use Rattle.clap.specs.declared.builder.action.ArgAction.TheVariants as action
 use Rattle.flow_types.specs.Text.{number_value}
 use Rattle.command_words.specs.declared.command.Command.{Command}
-use Rattle.command_words.specs.declared.command.Mode.{Mode}
-use Rattle.command_words.specs.declared.command.Mode.TheVariants.{Replay, Storm, Grind}
+use Rattle.command_words.specs.declared.command.Task.{Task}
+use Rattle.command_words.specs.declared.command.Task.TheVariants.{Replay, Storm, Grind}
 
 -- the one word that stands by itself, which has to be there
-abbrev pub mode_rule : Rule
-mode_rule = record (new_rule (codes "MODE")) { required = true }
+abbrev pub task_rule : Rule
+task_rule = record (new_rule (codes "MODE")) { required = true }
 
 -- an option `--name VALUE`, or `--name=VALUE`, and its value where it is left out
 abbrev pub option_rule : (name default : Text) → Rule
@@ -26,22 +26,22 @@ bare = on_top (λ top. record top { no_binary_name = true; disable_help_flag = t
 unfoldable pub program : App
 program =
     with_rule (with_rule (with_rule (with_rule bare
-    mode_rule)
+    task_rule)
     (option_rule (codes "workers") (codes "4")))
     (option_rule (codes "lanes") (codes "2")))
     (option_rule (codes "seed") (codes "1"))
 
--- the mode of this name
-abbrev pub mode_of : Text → Option Mode
-mode_of name =
+-- the task of this name
+abbrev pub task_of : Text → Option Task
+task_of name =
     if bytes_eq name (codes "replay") then Some Replay
     else if bytes_eq name (codes "storm") then Some Storm
     else if bytes_eq name (codes "grind") then Some Grind
     else None
 
--- the mode that the words name
-abbrev pub mode_in : List Row → Option Mode
-mode_in rows = option_and_then mode_of (first_of (codes "MODE") rows)
+-- the task that the words name
+abbrev pub task_in : List Row → Option Task
+task_in rows = option_and_then task_of (first_of (codes "MODE") rows)
 
 -- the number from `low` to `high` that a text writes, in decimal digits without sign or leading zero
 abbrev pub number_between : (low high : ℕ) → Text → Option ℕ
@@ -52,14 +52,14 @@ abbrev pub number_in : (low high : ℕ) → (name : Text) → List Row → Optio
 number_in low high name rows = option_and_then (number_between low high) (first_of name rows)
 
 -- a command, where each of its parts is said
-abbrev pub all_said : Option Mode → (workers lanes seed : Option ℕ) → Option Command
-all_said (Some mode) (Some workers) (Some lanes) (Some seed) = Some (record { mode = mode; workers = workers; lanes = lanes; seed = seed })
+abbrev pub all_said : Option Task → (workers lanes seed : Option ℕ) → Option Command
+all_said (Some task) (Some workers) (Some lanes) (Some seed) = Some (record { task = task; workers = workers; lanes = lanes; seed = seed })
 all_said _ _ _ _ = None
 
 -- the command that the values of the words say
 unfoldable pub command_of : List Row → Option Command
 command_of rows =
-    all_said (mode_in rows)
+    all_said (task_in rows)
     (number_in 1 64 (codes "workers") rows)
     (number_in 1 8 (codes "lanes") rows)
     (number_in 0 4294967295 (codes "seed") rows)

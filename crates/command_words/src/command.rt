@@ -1,6 +1,6 @@
 /// What the program does.
 #[derive(Clone, Copy, Debug, PartialEq, Eq)]
-pub enum Mode {
+pub enum Task {
     /// It replays the rows on its standard input by one thread.
     Replay,
     /// It runs the rows on its standard input by threads: owners, lanes and appliers.
@@ -9,11 +9,11 @@ pub enum Mode {
     Grind,
 }
 
-/// What the words ask for. Each mode reads the options that it uses, and leaves the others alone.
+/// What the words ask for. Each task reads the options that it uses, and leaves the others alone.
 #[derive(Clone, Copy, Debug, PartialEq, Eq)]
 pub struct Command {
     /// What the program does.
-    pub mode: Mode,
+    pub task: Task,
     /// How many workers build the table, 1..=64.
     pub workers: u8,
     /// How many lanes answer packets, 1..=8.

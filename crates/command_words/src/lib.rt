@@ -9,7 +9,7 @@
 mod command;
 mod words;
 
-pub use command::{Command, Mode};
+pub use command::{Command, Task};
 pub use words::read_command;
 
 #[cfg(test)]

@@ -1,24 +1,24 @@
-use crate::{Command, Mode, read_command};
+use crate::{Command, Task, read_command};
 use std::test::Fail;
 
-/// Words, parted by spaces, and what they ask for: the mode, workers, lanes and seed.
-type Case = (&'static str, Option<(Mode, u8, u8, u32)>);
+/// Words, parted by spaces, and what they ask for: the task, workers, lanes and seed.
+type Case = (&'static str, Option<(Task, u8, u8, u32)>);
 
 #[test]
 fn words_ask_for_what_they_say(rt: HostRuntime) -> Result<(), Fail> {
     let cases: [Case; 28] = [
-        ("replay", Some((Mode::Replay, 4, 2, 1))),
-        ("grind", Some((Mode::Grind, 4, 2, 1))),
-        ("storm", Some((Mode::Storm, 4, 2, 1))),
-        ("--workers 1 replay", Some((Mode::Replay, 1, 2, 1))),
-        ("--lanes=8 storm --workers 7", Some((Mode::Storm, 7, 8, 1))),
-        ("replay --workers=64", Some((Mode::Replay, 64, 2, 1))),
-        ("grind --seed 0 --lanes 8", Some((Mode::Grind, 4, 8, 0))),
+        ("replay", Some((Task::Replay, 4, 2, 1))),
+        ("grind", Some((Task::Grind, 4, 2, 1))),
+        ("storm", Some((Task::Storm, 4, 2, 1))),
+        ("--workers 1 replay", Some((Task::Replay, 1, 2, 1))),
+        ("--lanes=8 storm --workers 7", Some((Task::Storm, 7, 8, 1))),
+        ("replay --workers=64", Some((Task::Replay, 64, 2, 1))),
+        ("grind --seed 0 --lanes 8", Some((Task::Grind, 4, 8, 0))),
         (
             "--seed 4294967295 grind --lanes=1 --workers 7",
-            Some((Mode::Grind, 7, 1, 4_294_967_295)),
+            Some((Task::Grind, 7, 1, 4_294_967_295)),
         ),
-        ("-- replay", Some((Mode::Replay, 4, 2, 1))),
+        ("-- replay", Some((Task::Replay, 4, 2, 1))),
         ("fly", None),
         ("REPLAY", None),
         ("replay replay", None),
@@ -45,8 +45,8 @@ fn words_ask_for_what_they_say(rt: HostRuntime) -> Result<(), Fail> {
         for word in words.split(' ') {
             list.push(String::from_str(alloc, word)?)?;
         }
-        let wanted = wanted.map(|(mode, workers, lanes, seed)| Command {
-            mode,
+        let wanted = wanted.map(|(task, workers, lanes, seed)| Command {
+            task,
             workers,
             lanes,
             seed,

@@ -2,9 +2,9 @@ ghost use Rattle.std.specs.Prelude.{◌≡◌, ◌≤◌, false, IfOk, IfSome, m
 ghost use Rattle.clap.specs.Matches.{found_of};
 ghost use Rattle.clap.specs.Simple.{app_of};
 ghost use Rattle.clap.specs.Walk.{rows_of, rule_of};
-ghost use Rattle.command_words.specs.Words.{IsInRange, bare, command_of, meant, mode_in, mode_of, mode_rule, number_between, number_in, option_rule, program};
+ghost use Rattle.command_words.specs.Words.{IsInRange, bare, command_of, meant, task_in, task_of, task_rule, number_between, number_in, option_rule, program};
 
-use crate::command::{Command, Mode};
+use crate::command::{Command, Task};
 use clap::error::ErrorKind;
 use clap::{Arg, ArgAction, ArgMatches};
 use flow_types::read_number;
@@ -31,7 +31,7 @@ fn command_line<'a>(alloc: Global) -> Result<clap::Command<'a>, AllocError>
     ensures { IfOk result (λ made. app_of made ≡ program) }
 {
     bare_line(alloc)
-        .arg(mode_word(alloc))?
+        .arg(task_word(alloc))?
         .arg(option(alloc, "workers", "4"))?
         .arg(option(alloc, "lanes", "2"))?
         .arg(option(alloc, "seed", "1"))
@@ -46,8 +46,8 @@ fn bare_line<'a>(alloc: Global) -> clap::Command<'a>
         .disable_help_flag(true)
 }
 
-fn mode_word<'a>(alloc: Global) -> Arg<'a>
-    ensures rule { rule_of result ≡ mode_rule }
+fn task_word<'a>(alloc: Global) -> Arg<'a>
+    ensures rule { rule_of result ≡ task_rule }
     ensures local { result.global ≡ false }
 {
     Arg::new(alloc, "MODE").required(true)
@@ -70,33 +70,33 @@ fn command_of(matches: &ArgMatches<'_>) -> Option<Command>
     ensures value { result ≡ command_of (rows_of (found_of matches.now)) }
     ensures ranges { IfSome result IsInRange }
 {
-    let mode = mode_in(matches)?;
+    let task = task_in(matches)?;
     let workers = number_in(matches, "workers", 1, 64)?;
     let lanes = number_in(matches, "lanes", 1, 8)?;
     let seed = number_in(matches, "seed", 0, 4_294_967_295)?;
     Some(Command {
-        mode,
+        task,
         workers: workers as u8,
         lanes: lanes as u8,
         seed: seed as u32,
     })
 }
 
-/// The mode that the words name.
-fn mode_in(matches: &ArgMatches<'_>) -> Option<Mode>
-    ensures { result ≡ mode_in (rows_of (found_of matches.now)) }
+/// The task that the words name.
+fn task_in(matches: &ArgMatches<'_>) -> Option<Task>
+    ensures { result ≡ task_in (rows_of (found_of matches.now)) }
 {
-    mode_of(matches.get_str("MODE")?)
+    task_of(matches.get_str("MODE")?)
 }
 
-/// The mode of this name.
-fn mode_of(name: &str) -> Option<Mode>
-    ensures { result ≡ mode_of name.now }
+/// The task of this name.
+fn task_of(name: &str) -> Option<Task>
+    ensures { result ≡ task_of name.now }
 {
     match name {
-        "replay" => Some(Mode::Replay),
-        "storm" => Some(Mode::Storm),
-        "grind" => Some(Mode::Grind),
+        "replay" => Some(Task::Replay),
+        "storm" => Some(Task::Storm),
+        "grind" => Some(Task::Grind),
         _ => None,
     }
 }

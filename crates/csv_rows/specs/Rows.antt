@@ -15,9 +15,9 @@ Row = List Field
 unfoldable pub rows : List ℕ → List Row
 rows bytes = records default_config (strip_bom bytes)
 
--- the field at a place, from 0; past the row's end it is empty
+-- the field of this number, from 0; past the row's end it is empty
 abbrev pub field_at : Row → ℕ → Field
-field_at row place = slice_index_or row place []
+field_at row number = slice_index_or row number []
 
 -- whether there was a row left, and what it leaves
 abbrev pub TakesRow : Bool → List Row → Row → List Row → Type 0

@@ -53,11 +53,11 @@ fn want_of_memory(error: Error) -> OutOfMemory
     OutOfMemory
 }
 
-/// The field at a place of a row, counted from 0. Past the row's last field it is empty.
-pub fn field(row: &ByteRecord, place: usize) -> &[u8]
-    ensures { result.now ≡ field_at (fields_of row.now) place }
+/// The field of this number of a row, counted from 0. Past the row's last field it is empty.
+pub fn field(row: &ByteRecord, number: usize) -> &[u8]
+    ensures { result.now ≡ field_at (fields_of row.now) number }
 {
-    match row.get(place) {
+    match row.get(number) {
         Some(field) => field,
         None => &[],
     }

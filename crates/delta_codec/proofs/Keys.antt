@@ -1,13 +1,9 @@
 -- A key's octets are those of its number.
 use Rattle.std.proofs.Common.{◌≡◌, length, refl, ap, ◌∙◌, arith}
 use Rattle.flow_types.specs.declared.key.FlowKey.{FlowKey}
-use Rattle.flow_types.specs.Key.{number, octets}
-use Rattle.flow_types.proofs.Octets.{HasFields, octets_are, field_octets}
-use Rattle.delta_codec.specs.Values.{IsKeyValue}
+use Rattle.flow_types.specs.Key.{number, octets, IsKeyValue}
+use Rattle.flow_types.proofs.Octets.{octets_are, field_octets}
 use Rattle.delta_codec.specs.Fields.{number_of}
-
-pub fields_of : (key : FlowKey) → IsKeyValue key → HasFields key
-fields_of key h = record { source = h.source; destination = h.destination; source_port = h.source_port; destination_port = h.destination_port; protocol = h.protocol }
 
 pub octets-long : (key : FlowKey) → length (octets key) ≡ 13
 unfolding octets
@@ -18,4 +14,4 @@ unfolding number_of
 fields-number key h = omega (arith, h.source, h.destination, h.source_port, h.destination_port, h.protocol)
 
 pub octets-number : (key : FlowKey) → IsKeyValue key → number_of (octets key) ≡ number key
-octets-number key h = ap number_of (octets_are key (fields_of key h)) ∙ fields-number key h
+octets-number key h = ap number_of (octets_are key h) ∙ fields-number key h

@@ -12,3 +12,5 @@ pub mod Same
 pub mod Prefixes
 pub mod Decoded
 pub mod Starts
+pub mod Routes
+pub mod Built

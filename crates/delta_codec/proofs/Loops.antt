@@ -5,14 +5,13 @@ use Rattle.std.specs.List.{flat_map}
 use Rattle.std.proofs.lemmas.List.{take_more_set, drop-set-lt, drop-drop, drop-replicate, length-append, length-take}
 use Rattle.std.proofs.lemmas.List.Elements.{All-nil, All-push}
 use Rattle.flow_types.specs.declared.key.FlowKey.{FlowKey}
-use Rattle.flow_types.specs.Key.{number}
+use Rattle.flow_types.specs.Key.{number, IsKeyValue}
 use Rattle.group_search.specs.declared.entry.Pair.{Pair}
 use Rattle.group_search.specs.declared.rows.Row.{Row}
 use Rattle.group_search.specs.declared.limits.TheConstants.{MOST_BITS}
 use Rattle.group_search.specs.Served.{zero_pair}
 use Rattle.group_search.specs.Words.{IsPair}
 use Rattle.delta_codec.specs.declared.refused.DecodeRefused.{DecodeRefused}
-use Rattle.delta_codec.specs.Values.{IsKeyValue}
 use Rattle.delta_codec.specs.Spelling.{Stand, pair_octets, row_octets}
 use Rattle.delta_codec.specs.Fields.{field_fault, first_fault, free, key_number_at, key_field, row_node_field, pair_fields, row_fields}
 use Rattle.delta_codec.proofs.Faults.{passed, stops}
@@ -24,7 +23,7 @@ nothing_stands bytes at le = Stand-joined bytes at [] (drop at bytes) le refl
 
 -- ---- pairs
 
--- so many pairs are read, and the others are zero
+-- the first pairs are read, and the others are zero
 pub record ReadPairs (bytes : List ℕ) (at bits done : ℕ) (pairs : List Pair) (place : ℕ) : Type 0 where
   pub width : length pairs ≡ MOST_BITS
   pub rest : drop done pairs ≡ replicate (MOST_BITS - done) zero_pair
@@ -82,7 +81,7 @@ pairs_done bytes at bits pairs place h =
 
 -- ---- rows
 
--- so many rows are read
+-- the first rows are read
 pub record ReadRows (nodes : ℕ) (bytes : List ℕ) (at count done : ℕ) (rows : List Row) (before : Option FlowKey) (place : ℕ) : Type 0 where
   pub counted : length rows ≡ done
   pub sized : All (λ (row : Row). IsKeyValue row.key) rows

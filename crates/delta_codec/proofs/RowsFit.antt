@@ -4,11 +4,11 @@ use Rattle.std.specs.Prelude.{All, nat_lt}
 use Rattle.std.specs.List.{flat_map}
 use Rattle.std.proofs.lemmas.Bool.{ltb-true, lt-ltb}
 use Rattle.std.proofs.lemmas.List.Elements.{All-nil, All-cons, All-head, All-tail, All-weaker}
-use Rattle.flow_types.specs.Key.{number, octets}
+use Rattle.group_search.specs.Limits.{fewest_rows, most_rows}
+use Rattle.flow_types.specs.Key.{number, octets, IsKeyValue}
 use Rattle.group_search.specs.declared.rows.Row.{Row}
 use Rattle.group_search.specs.Rows.{AreRows, IsRising, key_number}
 use Rattle.group_search.proofs.Rising.{rising_cons, rising_head, rising_tail}
-use Rattle.delta_codec.specs.Values.{IsKeyValue}
 use Rattle.delta_codec.specs.Fits.{RowsFit}
 use Rattle.delta_codec.specs.Spelling.{Stand, row_octets}
 use Rattle.delta_codec.specs.Fields.{field_fault, first_fault, is_above, key_number_at, key_field, row_node_field, byte_at, row_fields}
@@ -108,7 +108,7 @@ rising-go_on nodes (row ∷ rows) rising below =
 
 -- ---- all rows of a record
 
-pub gathered_fit : (nodes : ℕ) (bytes : List ℕ) (at count : ℕ) (rows : List Row) → length rows ≡ count → 2 ≤ count → count ≤ 64 → AreSized rows
+pub gathered_fit : (nodes : ℕ) (bytes : List ℕ) (at count : ℕ) (rows : List Row) → length rows ≡ count → fewest_rows ≤ count → count ≤ most_rows → AreSized rows
     → Stand bytes at (flat_map row_octets rows) → None ≡ first_fault bytes (row_fields nodes bytes count None at) → RowsFit nodes rows
 gathered_fit nodes bytes at count rows counted enough few sized h sound =
     let faults : first_fault bytes (row_fields nodes bytes (length rows) None at) ≡ None = ap (λ (n : ℕ). first_fault bytes (row_fields nodes bytes n None at)) counted ∙ sym sound in

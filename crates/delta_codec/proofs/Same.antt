@@ -7,7 +7,7 @@ use Rattle.std.proofs.lemmas.Nat.{from_be_bytes-to_be_bytes_4}
 use Rattle.std.proofs.lemmas.List.Elements.{All-head, All-tail}
 use Rattle.flow_types.specs.declared.key.FlowKey.{FlowKey}
 use Rattle.flow_types.specs.declared.record.Record.{Record}
-use Rattle.flow_types.specs.Key.{octets}
+use Rattle.flow_types.specs.Key.{octets, IsKeyValue}
 use Rattle.flow_types.specs.Size.{Size}
 use Rattle.flow_types.proofs.Octets.{same_octets}
 use Rattle.group_search.specs.declared.entry.Pair.{Pair}
@@ -21,11 +21,12 @@ use Rattle.delta_codec.specs.declared.message.Message.{Message}
 use Rattle.delta_codec.specs.declared.message.Message.TheVariants.{Table, Fib}
 use Rattle.delta_codec.specs.declared.message.TableMessage.{TableMessage}
 use Rattle.delta_codec.specs.declared.message.FibMessage.{FibMessage}
-use Rattle.delta_codec.specs.Values.{IsContent, IsInfo, IsKeyValue, IsMessage, IsOperation}
+use Rattle.flow_types.specs.Map.{IsRecordValue}
+use Rattle.delta_codec.specs.Values.{IsContent, IsMessage, IsOperation}
 use Rattle.delta_codec.specs.Fits.{ContentFits, Fits}
 use Rattle.delta_codec.specs.Spelling.{Stand, octets_of_word, two_octets, pair_octets, row_octets, content_octets, operation_octets, spelling}
 use Rattle.delta_codec.specs.Fields.{byte_at}
-use Rattle.delta_codec.proofs.Keys.{fields_of, octets-long}
+use Rattle.delta_codec.proofs.Keys.{octets-long}
 use Rattle.delta_codec.proofs.Lengths.{row-long}
 use Rattle.delta_codec.proofs.Sound.{head_read}
 use Rattle.delta_codec.proofs.Standing.{Stand-first, Stand-second, octet_read, two_read}
@@ -35,7 +36,7 @@ module _ (bytes : List ℕ) (at : ℕ) where
   same_stand x y e hx hy = sym hx.same ∙ ap (λ (n : ℕ). take n (drop at bytes)) e ∙ hy.same
 
   pub same_key : (k l : FlowKey) → IsKeyValue k → IsKeyValue l → Stand bytes at (octets k) → Stand bytes at (octets l) → k ≡ l
-  same_key k l fits_k fits_l hk hl = same_octets k l (fields_of k fits_k) (fields_of l fits_l) (same_stand (octets k) (octets l) (octets-long k ∙ sym (octets-long l)) hk hl)
+  same_key k l fits_k fits_l hk hl = same_octets k l fits_k fits_l (same_stand (octets k) (octets l) (octets-long k ∙ sym (octets-long l)) hk hl)
 
   pub same_four : (n m : ℕ) → n < 2 ^ 32 → m < 2 ^ 32 → Stand bytes at (octets_of_word n) → Stand bytes at (octets_of_word m) → n ≡ m
   same_four n m fits_n fits_m hn hm =
@@ -109,7 +110,7 @@ info_of : ℕ → ℕ → Record
 info_of teid base = record { teid = teid; base = base }
 
 module _ (bytes : List ℕ) where
-  same_put : (at : ℕ) (k l : FlowKey) (i j : Record) → IsKeyValue k → IsKeyValue l → IsInfo i → IsInfo j
+  same_put : (at : ℕ) (k l : FlowKey) (i j : Record) → IsKeyValue k → IsKeyValue l → IsRecordValue i → IsRecordValue j
       → Stand bytes at (octets k ++ (octets_of_word i.teid ++ octets_of_word i.base)) → Stand bytes at (octets l ++ (octets_of_word j.teid ++ octets_of_word j.base)) → Put k i ≡ Put l j
   unfolding info_of
   same_put at k l i j fits_k fits_l fits_i fits_j hi hj =

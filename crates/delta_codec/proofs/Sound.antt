@@ -7,6 +7,8 @@ use Rattle.std.proofs.lemmas.Bool.{lt-ltb, le-leb, eq-eqb}
 use Rattle.flow_types.specs.declared.key.FlowKey.{FlowKey}
 use Rattle.flow_types.specs.declared.record.Record.{Record}
 use Rattle.flow_types.specs.Key.{octets}
+use Rattle.block_layout.specs.Limits.{group_count}
+use Rattle.group_search.specs.Limits.{fewest_rows, most_rows}
 use Rattle.flow_types.specs.Size.{Size}
 use Rattle.group_search.specs.declared.entry.Pair.{Pair}
 use Rattle.group_search.specs.declared.record.GroupRecord.{GroupRecord}
@@ -63,12 +65,12 @@ head_sound size bytes kind owner turn block group body h fits known =
     let in_table : nat_lt (two_at bytes 4) size.blocks ≡ true = lt-ltb (two_at bytes 4) size.blocks (subst (λ (n : ℕ). n < size.blocks) (sym h.block_is) fits.in_table) in
     let owned : (two_at bytes 4 % size.nodes == byte_at bytes 1) ≡ true = eq-eqb (two_at bytes 4 % size.nodes) (byte_at bytes 1) (ap (λ (n : ℕ). n % size.nodes) h.block_is ∙ fits.owned ∙ sym h.owner_is) in
     let block_met : (nat_lt (two_at bytes 4) size.blocks && two_at bytes 4 % size.nodes == byte_at bytes 1) ≡ true = rw (in_table, owned) in
-    let group_met : nat_lt (byte_at bytes 6) 64 ≡ true = lt-ltb _ _ (omega (arith, h.group_is, fits.in_block)) in
+    let group_met : nat_lt (byte_at bytes 6) group_count ≡ true = lt-ltb _ _ (omega (arith, h.group_is, fits.in_block)) in
     let k = ruled_sound bytes 0 1 (byte_at bytes 0 == 0x11 || byte_at bytes 0 == 0x12) Kind (omega arith) kind_met in
     let o = ruled_sound bytes 1 1 (nat_lt (byte_at bytes 1) size.nodes) Owner (omega arith) owner_met in
     let t = ruled_sound bytes 2 2 (nat_lt 0 (two_at bytes 2)) Turn (omega arith) turn_met in
     let b = ruled_sound bytes 4 2 (nat_lt (two_at bytes 4) size.blocks && two_at bytes 4 % size.nodes == byte_at bytes 1) Block (omega arith) block_met in
-    let g = ruled_sound bytes 6 1 (nat_lt (byte_at bytes 6) 64) Group (omega arith) group_met in
+    let g = ruled_sound bytes 6 1 (nat_lt (byte_at bytes 6) group_count) Group (omega arith) group_met in
     rw (k, o, t, b, g)
 
 pairs_sound : (bytes : List ℕ) (pairs : List Pair) (at : ℕ) → Stand bytes at (flat_map pair_octets pairs) → first_fault bytes (pair_fields (length pairs) at) ≡ None
@@ -100,10 +102,10 @@ content_sound size bytes at (Fallback rows) fits sized h =
     subst (λ (n : ℕ). first_fault bytes (row_fields size.nodes bytes n None (at + 2)) ≡ None) (sym count) (rows_sound size.nodes bytes rows None (at + 2) sized rest go_on) in
     let met : nat_lt (byte_at bytes at) 2 ≡ true = lt-ltb _ _ (omega arith) in
     let is_fallback : (byte_at bytes at == 0) ≡ false = ap (λ (n : ℕ). n == 0) body in
-    let enough : nat_le 2 (byte_at bytes (at + 1)) ≡ true = le-leb _ _ (omega (arith, fits.enough)) in
-    let few : nat_le (byte_at bytes (at + 1)) 64 ≡ true = le-leb _ _ (omega (arith, fits.few)) in
-    let count_met : (nat_le 2 (byte_at bytes (at + 1)) && nat_le (byte_at bytes (at + 1)) 64) ≡ true = rw (enough, few) in
-    let count_sound = ruled_sound bytes (at + 1) 1 (nat_le 2 (byte_at bytes (at + 1)) && nat_le (byte_at bytes (at + 1)) 64) Count (omega arith) count_met in
+    let enough : nat_le fewest_rows (byte_at bytes (at + 1)) ≡ true = le-leb _ _ (omega (arith, fits.enough)) in
+    let few : nat_le (byte_at bytes (at + 1)) most_rows ≡ true = le-leb _ _ (omega (arith, fits.few)) in
+    let count_met : (nat_le fewest_rows (byte_at bytes (at + 1)) && nat_le (byte_at bytes (at + 1)) most_rows) ≡ true = rw (enough, few) in
+    let count_sound = ruled_sound bytes (at + 1) 1 (nat_le fewest_rows (byte_at bytes (at + 1)) && nat_le (byte_at bytes (at + 1)) most_rows) Count (omega arith) count_met in
     rw (ruled_sound bytes at 1 (nat_lt (byte_at bytes at) 2) Body (omega arith) met, is_fallback, count_sound) sound
 
 put-long : (key : FlowKey) (info : Record) → length (octets key ++ octets_of_word info.teid ++ octets_of_word info.base) ≡ 21

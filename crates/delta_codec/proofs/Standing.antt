@@ -1,13 +1,11 @@
 -- Octets that stand at a place, one part after another.
-use Rattle.std.proofs.Common.{◌≡◌, ℕ, ◌+◌, ◌^◌, ◌<◌, ◌≤◌, List, [], ◌∷◌, ◌++◌, length, get_or, take, drop, refl, sym, ap, ◌∙◌, append_assoc, arith, length-append, length-take, length-drop, w16, w32}
+use Rattle.std.proofs.Common.{◌≡◌, ℕ, ◌+◌, ◌^◌, ◌<◌, ◌≤◌, List, [], ◌∷◌, ◌++◌, length, get_or, take, drop, refl, sym, ap, ◌∙◌, append_assoc, arith, length-append, length-take, length-drop, w16, w32, inl, inr}
 use Rattle.std.specs.Int.{from_be_bytes}
 use Rattle.std.proofs.lemmas.Bool.{cases_lt}
-use Rattle.std.proofs.Common.{inl, inr}
 use Rattle.std.proofs.lemmas.List.{take-append-drop, drop-drop, drop_at, take_at, get_or-drop, get_or-take, get_or_past}
 use Rattle.std.proofs.lemmas.Nat.{be_bytes_2, be_bytes_4, from_be_bytes-to_be_bytes_2}
 use Rattle.flow_types.specs.declared.key.FlowKey.{FlowKey}
-use Rattle.flow_types.specs.Key.{number, octets}
-use Rattle.delta_codec.specs.Values.{IsKeyValue}
+use Rattle.flow_types.specs.Key.{number, octets, IsKeyValue}
 use Rattle.delta_codec.specs.Spelling.{Stand, two_octets, octets_of_word}
 use Rattle.delta_codec.specs.Fields.{byte_at, two_at, key_number_at, number_of}
 use Rattle.delta_codec.proofs.Keys.{octets-long, octets-number}

@@ -4,12 +4,11 @@ use Rattle.flow_types.specs.declared.record.Flow.{Flow}
 use Rattle.flow_types.specs.Size.{Size}
 use Rattle.group_search.specs.declared.published.Publication.{Publication}
 use Rattle.group_search.specs.declared.record.GroupRecord.{GroupRecord}
-use Rattle.group_search.specs.Home.{Home, opening}
+use Rattle.group_search.specs.Home.{Home}
 use Rattle.group_search.specs.Published.{published_group}
-use Rattle.group_search.specs.Records.{content_of}
 use Rattle.group_history.specs.declared.change.Change.{Change}
 use Rattle.group_history.specs.Change.{changed_group}
-use Rattle.group_history.specs.History.{now}
+use Rattle.group_history.specs.History.{content_after}
 
 -- a group, and the canonical record of its map; `None` where the map is too large for one, as no accepted change makes it
 pub record Delta : Type 0 where
@@ -20,7 +19,7 @@ pub record Delta : Type 0 where
 abbrev pub delta_of : Size → List Flow → (before : List Change) → Change → Delta
 delta_of size flows before change = record {
   at = changed_group change;
-  content = content_of size.nodes (now (opening size.blocks flows (changed_group change)) (before ++ change ∷ []) (changed_group change));
+  content = content_after size flows (before ++ change ∷ []) (changed_group change);
 }
 
 -- what these changes tell, one after the other, that come after those before

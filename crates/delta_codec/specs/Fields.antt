@@ -2,7 +2,9 @@
 use Rattle.std.specs.Prelude.{ℕ, zero, suc, ◌+◌, ◌*◌, ◌%◌, ◌^◌, ◌==◌, ◌&&◌, ◌||◌, nat_lt, nat_le, Bool, true, if◌then◌else◌, List, [], ◌∷◌, ◌++◌, length, take, drop, slice_index, Option, Some, None, option_map}
 use Rattle.std.specs.Option.{option_or}
 use Rattle.std.specs.Int.{w16, from_be_bytes}
+use Rattle.block_layout.specs.Limits.{group_count}
 use Rattle.flow_types.specs.Size.{Size, value_bits}
+use Rattle.group_search.specs.Limits.{fewest_rows, most_rows}
 use Rattle.delta_codec.specs.declared.refused.BadField.{BadField}
 use Rattle.delta_codec.specs.declared.refused.BadField.TheVariants.{Kind, Owner, Turn, Block, Group, Body, Count, Order, Node}
 use Rattle.delta_codec.specs.declared.refused.DecodeRefused.{DecodeRefused}
@@ -53,12 +55,12 @@ abbrev pub block_field : Size → List ℕ → MessageField
 block_field size bytes = ruled 4 2 (nat_lt (two_at bytes 4) size.blocks && two_at bytes 4 % size.nodes == byte_at bytes 1) Block
 
 abbrev pub group_field : List ℕ → MessageField
-group_field bytes = ruled 6 1 (nat_lt (byte_at bytes 6) 64) Group
+group_field bytes = ruled 6 1 (nat_lt (byte_at bytes 6) group_count) Group
 
 abbrev pub head_fields : Size → List ℕ → List MessageField
 head_fields size bytes = kind_field bytes ∷ owner_field size bytes ∷ turn_number_field bytes ∷ block_field size bytes ∷ group_field bytes ∷ []
 
--- so many indexes, each with its array
+-- as many pairs as are counted, each an index and its array
 abbrev pub pair_fields : (count at : ℕ) → List MessageField
 pair_fields zero at = []
 pair_fields (suc count) at = free at 2 ∷ free (at + 2) 1 ∷ pair_fields count (at + 3)
@@ -74,14 +76,14 @@ key_field bytes before at = ruled at 13 (is_above before (key_number_at bytes at
 abbrev pub row_node_field : (nodes : ℕ) → List ℕ → (at : ℕ) → MessageField
 row_node_field nodes bytes at = ruled at 1 (nat_lt (byte_at bytes at) nodes) Node
 
--- so many rows, each a key and its node, after a row with the key `before`
+-- as many rows as are counted, each a key and its node, after a row with the key `before`
 abbrev pub row_fields : (nodes : ℕ) → List ℕ → (count : ℕ) (before : Option ℕ) (at : ℕ) → List MessageField
 row_fields nodes bytes zero before at = []
 row_fields nodes bytes (suc count) before at =
     key_field bytes before at ∷ row_node_field nodes bytes (at + 13) ∷ row_fields nodes bytes count (Some (key_number_at bytes at)) (at + 14)
 
 abbrev pub count_field : List ℕ → (at : ℕ) → MessageField
-count_field bytes at = ruled at 1 (nat_le 2 (byte_at bytes at) && nat_le (byte_at bytes at) 64) Count
+count_field bytes at = ruled at 1 (nat_le fewest_rows (byte_at bytes at) && nat_le (byte_at bytes at) most_rows) Count
 
 -- the body of a table message: a pair for each value bit, or rows after their number
 abbrev pub content_fields : Size → List ℕ → (at : ℕ) → List MessageField
@@ -102,7 +104,7 @@ operation_fields bytes at =
 abbrev pub fields : Size → List ℕ → List MessageField
 fields size bytes = head_fields size bytes ++ (if byte_at bytes 0 == 0x11 then content_fields size bytes 7 else operation_fields bytes 7)
 
--- Short, where the octets end before so many from a place on
+-- Short, where the octets end before these from a place on do
 abbrev pub missing : List ℕ → (at octets : ℕ) → Option DecodeRefused
 missing bytes at octets = if nat_lt (length bytes) (at + octets) then Some Short else None
 

@@ -1,3 +1,4 @@
+pub mod Limits
 pub mod Values
 pub mod Fits
 pub mod Spelling
@@ -7,3 +8,8 @@ pub mod Refusals
 pub mod Laws
 pub mod Deltas
 pub mod Short
+pub mod Turns
+pub mod Op
+pub mod Messages
+pub mod Journals
+pub mod Routed

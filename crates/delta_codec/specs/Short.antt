@@ -1,6 +1,7 @@
 -- Messages without rows, and what octets begin with up to the rows of a message that has rows.
 use Rattle.std.specs.Prelude.{⊤, ℕ, ◌≡◌, ◌≤◌, ◌+◌, ◌==◌, nat_lt, if◌then◌else◌, List, [], ◌∷◌, ◌++◌}
 use Rattle.flow_types.specs.Size.{Size, value_bits}
+use Rattle.group_search.specs.Limits.{fewest_rows, most_rows}
 use Rattle.group_search.specs.declared.record.GroupRecord.{GroupRecord}
 use Rattle.group_search.specs.declared.record.GroupRecord.TheVariants as content
 use Rattle.delta_codec.specs.declared.heading.Head.{Head}
@@ -45,13 +46,13 @@ content_start_fields size bytes at =
 abbrev pub start_fields : Size → List ℕ → List MessageField
 start_fields size bytes = head_fields size bytes ++ (if byte_at bytes 0 == 0x11 then content_start_fields size bytes 7 else operation_fields bytes 7)
 
--- the head of a message with so many rows stands there, and the number of rows
+-- the head of a message with rows stands there, and their number
 pub record IsRowsStart (size : Size) (bytes : List ℕ) (at_head : Head) (count : ℕ) : Type 0 where
   pub fits : HeadFits size at_head.owner at_head.turn at_head.block at_head.group
   pub head_stands : Stand bytes 0 (head 0x11 at_head.owner at_head.turn at_head.block at_head.group)
   pub count_stands : Stand bytes 7 (1 ∷ count ∷ [])
-  pub enough : 2 ≤ count
-  pub few : count ≤ 64
+  pub enough : fewest_rows ≤ count
+  pub few : count ≤ most_rows
 
 -- what the octets begin with
 abbrev pub IsStart : Size → List ℕ → Start → Type 0

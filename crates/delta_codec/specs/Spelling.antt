@@ -60,7 +60,7 @@ pub record Spells (size : Size) (bytes : List ℕ) (message : Message) : Type 0 
   pub fits : Fits size message
   pub spelled : bytes ≡ spelling message
 
--- the first so many octets spell the message
+-- the octets up to this number spell the message
 pub record BeginsWith (size : Size) (bytes : List ℕ) (message : Message) (used : ℕ) : Type 0 where
   pub there : used ≤ length bytes
   pub spells : Spells size (take used bytes) message

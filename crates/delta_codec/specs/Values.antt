@@ -1,7 +1,7 @@
 -- The numbers that the fields of a message can hold.
 use Rattle.std.specs.Prelude.{⊤, ℕ, ◌<◌, ◌^◌, All}
-use Rattle.flow_types.specs.declared.key.FlowKey.{FlowKey}
-use Rattle.flow_types.specs.declared.record.Record.{Record}
+use Rattle.flow_types.specs.Key.{IsKeyValue}
+use Rattle.flow_types.specs.Map.{IsRecordValue}
 use Rattle.group_search.specs.declared.record.GroupRecord.{GroupRecord}
 use Rattle.group_search.specs.declared.record.GroupRecord.TheVariants.{Served, Fallback}
 use Rattle.group_search.specs.declared.rows.Row.{Row}
@@ -11,19 +11,6 @@ use Rattle.delta_codec.specs.declared.message.FibOp.TheVariants.{Nothing, Put, D
 use Rattle.delta_codec.specs.declared.message.Message.{Message}
 use Rattle.delta_codec.specs.declared.message.Message.TheVariants.{Table, Fib}
 
--- addresses have 32 bits, ports 16, and a protocol 8
-pub record IsKeyValue (key : FlowKey) : Type 0 where
-  pub source : key.source < 2 ^ 32
-  pub destination : key.destination < 2 ^ 32
-  pub source_port : key.source_port < 2 ^ 16
-  pub destination_port : key.destination_port < 2 ^ 16
-  pub protocol : key.protocol < 2 ^ 8
-
--- a TEID and a base station's address have 32 bits
-pub record IsInfo (info : Record) : Type 0 where
-  pub teid : info.teid < 2 ^ 32
-  pub base : info.base < 2 ^ 32
-
 -- the numbers of a record
 abbrev pub IsContent : GroupRecord → Type 0
 IsContent (Served pairs) = All IsPair pairs
@@ -32,7 +19,7 @@ IsContent (Fallback rows) = All (λ (row : Row). IsKeyValue row.key) rows
 -- the numbers of a FIB's change
 abbrev pub IsOperation : FibOp → Type 0
 IsOperation Nothing = ⊤
-IsOperation (Put key info) = IsKeyValue key × IsInfo info
+IsOperation (Put key info) = IsKeyValue key × IsRecordValue info
 IsOperation (Drop key) = IsKeyValue key
 
 -- an owner and a group have 8 bits, a turn 32 and a block 16

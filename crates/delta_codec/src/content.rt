@@ -5,8 +5,9 @@ ghost use Rattle.std.specs.List.{flat_map};
 ghost use Rattle.std.specs.Result.{result_err};
 ghost use Rattle.flow_types.specs.Key.{number};
 ghost use Rattle.flow_types.specs.Size.{value_bits};
+ghost use Rattle.group_search.specs.Limits.{fewest_rows, most_rows};
 ghost use Rattle.group_search.specs.Words.{IsPair};
-ghost use Rattle.delta_codec.specs.Values.{IsKeyValue};
+ghost use Rattle.flow_types.specs.Key.{IsKeyValue};
 ghost use Rattle.delta_codec.specs.Fits.{RowsFit};
 ghost use Rattle.delta_codec.specs.Spelling.{Stand, pair_octets, row_octets};
 ghost use Rattle.delta_codec.specs.Fields.{count_field, field_fault, first_fault, key_number_at, byte_at, pair_fields, row_fields};
@@ -16,7 +17,7 @@ use crate::reading::{take_key, take_octet, take_two};
 use crate::refused::{BadField, DecodeRefused};
 use arrayvec::ArrayVec;
 use flow_types::{FlowKey, Shape};
-use group_search::{MOST_BITS, MOST_ROWS, Pair, Row, Rows, Served};
+use group_search::{FEWEST_ROWS, MOST_BITS, MOST_ROWS, Pair, Row, Rows, Served};
 
 /// A pair for each value bit of the shape.
 pub(crate) fn read_pairs(
@@ -57,12 +58,12 @@ pub(crate) fn read_count(bytes: &[u8], at: usize) -> Result<u8, DecodeRefused>
     requires { at ≤ length bytes.now }
     ensures value { IfOk result (λ count. count ≡ byte_at bytes.now at) }
     ensures stands { IfOk result (λ count. Stand bytes.now at (count ∷ [])) }
-    ensures enough { IfOk result (λ count. 2 ≤ count) }
-    ensures few { IfOk result (λ count. count ≤ 64) }
+    ensures enough { IfOk result (λ count. fewest_rows ≤ count) }
+    ensures few { IfOk result (λ count. count ≤ most_rows) }
     ensures fault { result_err result ≡ field_fault bytes.now (count_field bytes.now at) }
 {
     let count = take_octet(bytes, at)?;
-    if count < 2 || count > 64 {
+    if usize::from(count) < FEWEST_ROWS || usize::from(count) > MOST_ROWS {
         return Err(DecodeRefused::Bad {
             at,
             why: BadField::Count,
@@ -79,8 +80,8 @@ pub(crate) fn read_rows(
     at: usize,
 ) -> Result<(Rows, usize), DecodeRefused>
     requires there { at ≤ length bytes.now }
-    requires enough { 2 ≤ count }
-    requires few { count ≤ 64 }
+    requires enough { fewest_rows ≤ count }
+    requires few { count ≤ most_rows }
     ensures stands { IfOk result (λ read. Stand bytes.now at (flat_map row_octets read.0)) }
     ensures end { IfOk result (λ read. read.1 ≡ at + 14 * length read.0) }
     ensures counted { IfOk result (λ read. length read.0 ≡ count) }
@@ -103,7 +104,7 @@ fn gather_rows(
     at: usize,
 ) -> Result<(ArrayVec<Row, MOST_ROWS>, usize), DecodeRefused>
     requires there { at ≤ length bytes.now }
-    requires few { count ≤ 64 }
+    requires few { count ≤ most_rows }
     ensures stands { IfOk result (λ read. Stand bytes.now at (flat_map row_octets read.0.items)) }
     ensures end { IfOk result (λ read. read.1 ≡ at + 14 * length read.0.items) }
     ensures counted { IfOk result (λ read. length read.0.items ≡ count) }

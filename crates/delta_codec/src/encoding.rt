@@ -1,13 +1,18 @@
 ghost use Rattle.std.specs.Prelude.{◌≡◌, ◌↔◌, ◌+◌, ◌*◌, ◌≤◌, ◌++◌, All, IfSome, None, length};
 ghost use Rattle.std.specs.List.{flat_map};
 ghost use Rattle.arrayvec.specs.ArrayVec.{array_vec_len};
+ghost use Rattle.flow_types.specs.Size.{most_value_bits};
+ghost use Rattle.group_search.specs.Limits.{most_rows};
 ghost use Rattle.delta_codec.specs.Fits.{Fits};
+ghost use Rattle.delta_codec.specs.Limits.{longest_message, longest_short_message};
 ghost use Rattle.group_search.specs.Words.{IsPair};
 ghost use Rattle.group_search.specs.declared.record.GroupRecord.TheVariants as content;
 ghost use Rattle.delta_codec.specs.declared.message.Message.TheVariants as whole;
 ghost use Rattle.delta_codec.specs.Short.{IsOfRows};
 ghost use Rattle.delta_codec.specs.Spelling.{Spells, content_octets, head, operation_octets, pair_octets, row_octets, spelling};
-ghost use Rattle.delta_codec.specs.Values.{IsHead, IsKeyValue, IsMessage, IsOperation};
+ghost use Rattle.flow_types.specs.Key.{IsKeyValue};
+ghost use Rattle.flow_types.specs.Limits.{most_turns};
+ghost use Rattle.delta_codec.specs.Values.{IsHead, IsMessage, IsOperation};
 
 use crate::heading::{FIB, TABLE};
 use crate::message::{FibMessage, FibOp, Message, TableMessage};
@@ -15,11 +20,16 @@ use arrayvec::ArrayVec;
 use flow_types::Shape;
 use group_search::{GroupRecord, Pair, Row, Rows, Served};
 
-/// The octets of a message that fits the shape: 905 at most.
+/// How many octets a message has at most: a table message with 64 rows.
+pub const LONGEST_MESSAGE: usize = 905;
+/// How many octets a message without rows has at most: a FIB message that puts a record.
+pub const LONGEST_SHORT_MESSAGE: usize = 29;
+
+/// The octets of a message that fits the shape: `LONGEST_MESSAGE` at most.
 pub fn encode(shape: Shape, message: &Message) -> ArrayVec<u8, 1024>
     requires { Fits shape message.now }
     ensures spelled { Spells shape result.items message.now }
-    ensures longest { array_vec_len result ≤ 905 }
+    ensures longest { array_vec_len result ≤ longest_message }
     ensures sized { IsMessage message.now }
 {
     let mut octets = ArrayVec::new();
@@ -36,11 +46,11 @@ pub fn encode(shape: Shape, message: &Message) -> ArrayVec<u8, 1024>
     octets
 }
 
-/// The octets of a message that fits the shape, 29 at most, or `None` where it has rows.
+/// The octets of a message that fits the shape, `LONGEST_SHORT_MESSAGE` at most, or `None` where it has rows.
 pub fn encode_short(shape: Shape, message: &Message) -> Option<ArrayVec<u8, 32>>
     requires { Fits shape message.now }
     ensures spelled { IfSome result (λ octets. Spells shape octets.items message.now) }
-    ensures longest { IfSome result (λ octets. array_vec_len octets ≤ 29) }
+    ensures longest { IfSome result (λ octets. array_vec_len octets ≤ longest_short_message) }
     ensures rows { result ≡ None ↔ IsOfRows message.now }
     ensures sized { IfSome result (λ _. IsMessage message.now) }
 {
@@ -76,7 +86,7 @@ fn put_head<const N: usize>(
     group: u8,
 )
     requires room { array_vec_len octets.old + 7 ≤ N }
-    requires short { turn ≤ 65535 }
+    requires short { turn ≤ most_turns }
     ensures items { octets.new.items ≡ octets.old.items ++ head kind owner turn block group }
     ensures len { array_vec_len octets.new ≡ array_vec_len octets.old + 7 }
     ensures sized { IsHead owner turn block group }
@@ -89,7 +99,7 @@ fn put_head<const N: usize>(
 
 fn put_table_head<const N: usize>(octets: &mut ArrayVec<u8, N>, table: &TableMessage)
     requires room { array_vec_len octets.old + 7 ≤ N }
-    requires short { table.now.turn ≤ 65535 }
+    requires short { table.now.turn ≤ most_turns }
     ensures items { octets.new.items ≡ octets.old.items ++ head 0x11 table.now.owner table.now.turn table.now.block table.now.group }
     ensures len { array_vec_len octets.new ≡ array_vec_len octets.old + 7 }
     ensures sized { IsHead table.now.owner table.now.turn table.now.block table.now.group }
@@ -127,7 +137,7 @@ fn put_fallback<const N: usize>(octets: &mut ArrayVec<u8, N>, rows: &Rows)
 
 fn put_pairs<const N: usize>(octets: &mut ArrayVec<u8, N>, pairs: &[Pair])
     requires room { array_vec_len octets.old + 12 ≤ N }
-    requires few { length pairs.now ≤ 4 }
+    requires few { length pairs.now ≤ most_value_bits }
     ensures items { octets.new.items ≡ octets.old.items ++ flat_map pair_octets pairs.now }
     ensures len { array_vec_len octets.new ≡ array_vec_len octets.old + 3 * length pairs.now }
     ensures sized { All IsPair pairs.now }
@@ -149,7 +159,7 @@ fn put_pair<const N: usize>(octets: &mut ArrayVec<u8, N>, pair: Pair)
 
 fn put_rows<const N: usize>(octets: &mut ArrayVec<u8, N>, rows: &[Row])
     requires room { array_vec_len octets.old + 896 ≤ N }
-    requires few { length rows.now ≤ 64 }
+    requires few { length rows.now ≤ most_rows }
     ensures items { octets.new.items ≡ octets.old.items ++ flat_map row_octets rows.now }
     ensures len { array_vec_len octets.new ≡ array_vec_len octets.old + 14 * length rows.now }
     ensures sized { All (λ row. IsKeyValue row.key) rows.now }
@@ -170,10 +180,10 @@ fn put_row<const N: usize>(octets: &mut ArrayVec<u8, N>, row: Row)
 }
 
 fn put_fib<const N: usize>(octets: &mut ArrayVec<u8, N>, fib: &FibMessage)
-    requires room { array_vec_len octets.old + 29 ≤ N }
-    requires short { fib.now.turn ≤ 65535 }
+    requires room { array_vec_len octets.old + longest_short_message ≤ N }
+    requires short { fib.now.turn ≤ most_turns }
     ensures items { octets.new.items ≡ octets.old.items ++ spelling (whole.Fib fib.now) }
-    ensures longest { array_vec_len octets.new ≤ array_vec_len octets.old + 29 }
+    ensures longest { array_vec_len octets.new ≤ array_vec_len octets.old + longest_short_message }
     ensures sized { IsMessage (whole.Fib fib.now) }
 {
     put_head(octets, FIB, fib.owner, fib.turn, fib.block, fib.group);

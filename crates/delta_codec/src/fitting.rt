@@ -2,7 +2,8 @@ ghost use Rattle.std.specs.Prelude.{◌↔◌, IsTrue};
 ghost use Rattle.delta_codec.specs.Fits.{ContentFits, Fits, HeadFits, RowsFit};
 
 use crate::message::Message;
-use flow_types::Shape;
+use block_layout::GROUPS;
+use flow_types::{MOST_TURNS, Shape};
 use group_search::{GroupRecord, Rows};
 
 /// Whether the message fits the shape: its owner is a node and owns its block, its turn is in 1..=65535, its group below
@@ -24,10 +25,10 @@ fn head_fits(shape: Shape, owner: u8, turn: u32, block: u16, group: u8) -> bool
 {
     u16::from(owner) < shape.nodes()
         && turn >= 1
-        && turn <= 65_535
+        && turn <= MOST_TURNS
         && block < shape.blocks()
         && shape.owner(block) == owner
-        && group < 64
+        && group < GROUPS
 }
 
 fn content_fits(shape: Shape, content: &GroupRecord) -> bool

@@ -2,6 +2,7 @@
 
 ghost use Rattle.std.specs.Prelude.{◌≡◌, ◌<◌, ◌≤◌, ◌%◌, [], ◌∷◌, IfOk, length};
 ghost use Rattle.std.specs.Result.{result_err};
+ghost use Rattle.block_layout.specs.Limits.{group_count};
 ghost use Rattle.delta_codec.specs.Fits.{HeadFits};
 ghost use Rattle.delta_codec.specs.Spelling.{Stand, head, two_octets};
 ghost use Rattle.delta_codec.specs.Fields.{block_field, field_fault, first_fault, group_field, head_fields, kind_field, byte_at, owner_field, turn_number_field};
@@ -9,6 +10,7 @@ ghost use Rattle.delta_codec.specs.Heading.{kind_octet};
 
 use crate::reading::{take_octet, take_two};
 use crate::refused::{BadField, DecodeRefused};
+use block_layout::GROUPS;
 use flow_types::Shape;
 
 /// The first octet of a table message.
@@ -125,11 +127,11 @@ fn read_block(shape: Shape, owner: u8, bytes: &[u8]) -> Result<u16, DecodeRefuse
 fn read_group(bytes: &[u8]) -> Result<u8, DecodeRefused>
     requires { 6 ≤ length bytes.now }
     ensures stands { IfOk result (λ group. Stand bytes.now 6 (group ∷ [])) }
-    ensures in_block { IfOk result (λ group. group < 64) }
+    ensures in_block { IfOk result (λ group. group < group_count) }
     ensures fault { result_err result ≡ field_fault bytes.now (group_field bytes.now) }
 {
     let group = take_octet(bytes, 6)?;
-    if group >= 64 {
+    if group >= GROUPS {
         return Err(DecodeRefused::Bad {
             at: 6,
             why: BadField::Group,

@@ -5,7 +5,7 @@ ghost use Rattle.std.specs.Result.{result_err};
 ghost use Rattle.flow_types.specs.Key.{number, octets};
 ghost use Rattle.delta_codec.specs.Spelling.{Stand, octets_of_word, two_octets};
 ghost use Rattle.delta_codec.specs.Fields.{key_number_at, missing, byte_at, two_at};
-ghost use Rattle.delta_codec.specs.Values.{IsKeyValue};
+ghost use Rattle.flow_types.specs.Key.{IsKeyValue};
 
 use crate::refused::DecodeRefused;
 use flow_types::FlowKey;

@@ -24,7 +24,7 @@ pub(crate) const ROWS: usize = BODY + 2;
 pub(crate) enum Start {
     /// A message without rows, and the place after it.
     Short(ShortMessage, usize),
-    /// The head of a message with so many rows.
+    /// The head of a message with rows, and their number.
     Rows(Head, u8),
 }
 

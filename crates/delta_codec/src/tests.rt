@@ -215,6 +215,8 @@ fn laws_can_be_called(rt: HostRuntime) -> Result<(), Fail> {
     laws::messages_have_one_spelling(shape);
     laws::spellings_have_one_message(shape);
     laws::no_spelling_begins_another(shape);
+    laws::build_reaches_handlers();
+    laws::routes_stay_in_the_cluster();
     assert_eq!(rt; decode(shape, &[]), Err(DecodeRefused::Short));
     Ok(())
 }

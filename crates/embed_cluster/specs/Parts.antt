@@ -7,7 +7,7 @@ use Rattle.node_link.specs.Ends.{End}
 use Rattle.packet_path.specs.Fibs.{IsFibOf}
 use Rattle.partial_fib.specs.Ends.{ReaderState, reader_told}
 use Rattle.storm_lane.specs.Readers.{seats_of}
-use Rattle.turn_sender.specs.Sender.{IsSenderOf}
+use Rattle.turn_log.specs.Sender.{IsSenderOf}
 use Rattle.embed_cluster.specs.declared.lane.Lane.{Lane}
 use Rattle.embed_cluster.specs.declared.node.Node.{Node}
 use Rattle.embed_cluster.specs.declared.node.Nodes.{Nodes}

@@ -5,7 +5,7 @@ ghost use Rattle.flow_types.specs.Map.{AreDistinct};
 ghost use Rattle.group_search.specs.Build.{IsBuild};
 ghost use Rattle.group_search.specs.Records.{AreHandled};
 ghost use Rattle.embed_cluster.specs.Parts.{AreSameNodes, AreSameReaders, CanAnswer, HaveShape, IsFresh, IsLinkedTo, IsOpened, IsSameOwner, ReadBoth, Stands};
-ghost use Rattle.turn_sender.specs.Sender.{IsSenderOf};
+ghost use Rattle.turn_log.specs.Sender.{IsSenderOf};
 
 use crate::lane::{Lane, Said, answer_many, meet, say};
 use crate::node::{Node, Nodes, apply_all, settle_all};
@@ -23,7 +23,7 @@ use std::sync::Wait;
 use std::sync::atomic::AtomicU64;
 use std::thread::{Threads, join_mut};
 use storm_lane::OwnerReaders;
-use turn_sender::Sender;
+use turn_log::Sender;
 
 /// What all threads share.
 #[derive(Drop)]

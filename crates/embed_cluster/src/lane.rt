@@ -6,7 +6,7 @@ use crate::node::Nodes;
 use crate::owner::OWNER;
 use flow_types::Shape;
 use hash_family::place;
-use replay_model::Reply;
+use run_model::Reply;
 use std::sync::Wait;
 use storm_lane::OwnerReaders;
 

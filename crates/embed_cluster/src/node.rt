@@ -95,6 +95,7 @@ fn apply<R: Wait>(rt: &R, shape: Shape, node: &mut Node, message: Message)
     requires fits { Fits shape message }
     ensures same { IsSameNode node.old node.new }
 {
+    // Only the contract speaks of the shape.
     let _ = shape;
     if node.refused {
         return;

@@ -1,9 +1,9 @@
 //! The owner's thread.
 ghost use Rattle.std.specs.Prelude.{◌≡◌, ◌≤◌, ◌<◌, true, false, length, IfSome};
 ghost use Rattle.group_search.specs.Owned.{IsOwned};
-ghost use Rattle.rib_owner.specs.Acceptance.{updated_key};
+ghost use Rattle.group_history.specs.Acceptance.{updated_key};
 ghost use Rattle.rib_owner.specs.Turn.{node_entered};
-ghost use Rattle.turn_sender.specs.Sender.{changes_in};
+ghost use Rattle.turn_log.specs.Sender.{changes_in};
 ghost use Rattle.embed_cluster.specs.Parts.{IsSameOwner, Stands};
 
 use crate::cluster::Phase;
@@ -16,7 +16,7 @@ use out_of_memory::OutOfMemory;
 use rib_owner::{Update, UpdateRefused};
 use std::sync::Wait;
 use std::sync::atomic::Ordering;
-use turn_sender::Sender;
+use turn_log::Sender;
 
 /// The number of the node that owns the one block.
 pub(crate) const OWNER: u8 = 0;

@@ -12,8 +12,9 @@ use Rattle.flow_types.specs.declared.why.Why.{Why}
 use Rattle.flow_types.specs.declared.why.Why.TheVariants as why
 use Rattle.csv_rows.specs.Rows.{Row}
 use Rattle.flow_reader.specs.FirstBad.{Begins, Breaks, BreaksAfterFlows, IsFirstBad, IsOpening, NeverBegins, OpeningLaw}
-use Rattle.flow_reader.specs.Fields.{and_then}
-use Rattle.flow_reader.specs.Opening.{adds, bad_row, has_key, later_row, opening_after, ends_or, opening_from, opening_of, shape_of, with_said}
+use Rattle.row_fields.specs.Fields.{and_then}
+use Rattle.row_fields.specs.Refused.{bad_row}
+use Rattle.flow_reader.specs.Opening.{adds, has_key, later_row, opening_after, ends_or, opening_from, opening_of, shape_of, with_said}
 use Rattle.flow_reader.specs.declared.opening.Opening.{Opening}
 use Rattle.flow_reader.proofs.FlowFacts.{each-fits, row-fits, same-numbers}
 use Rattle.flow_reader.proofs.KeyFacts.{has_key-false, has_key-none, has_key-there, has_key-true}

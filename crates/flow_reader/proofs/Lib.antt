@@ -2,3 +2,4 @@ pub mod OpeningFacts
 pub mod KeyFacts
 pub mod FirstBadFacts
 pub mod FlowFacts
+pub mod FlowMapFacts

@@ -5,11 +5,12 @@ use Rattle.flow_types.specs.declared.record.Flow.{Flow}
 use Rattle.flow_types.specs.declared.why.BadRow.{BadRow}
 use Rattle.flow_types.specs.declared.why.Why.TheVariants as why
 use Rattle.csv_rows.specs.Rows.{Row, TakesRow}
-use Rattle.flow_reader.specs.Opening.{bad_row, opening_after, opening_from, opening_of, row_after_flows, shape_of}
+use Rattle.row_fields.specs.Refused.{bad_row}
+use Rattle.flow_reader.specs.Opening.{opening_after, opening_from, opening_of, row_after_flows, shape_of}
 use Rattle.flow_reader.specs.Steps.{BeginsAt, TakesIn}
 use Rattle.flow_reader.specs.declared.opening.Opening.{Opening}
-use Rattle.flow_reader.specs.declared.opening.RowRefused.{RowRefused}
-use Rattle.flow_reader.specs.declared.opening.RowRefused.TheVariants as refused
+use Rattle.row_fields.specs.declared.refused.RowRefused.{RowRefused}
+use Rattle.row_fields.specs.declared.refused.RowRefused.TheVariants as refused
 
 -- a row was taken, or none is left
 took : (found : Bool) (before after : List Row) (row : Row) → found ≡ true → TakesRow found before row after → before ≡ row ∷ after

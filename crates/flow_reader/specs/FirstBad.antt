@@ -40,7 +40,7 @@ abbrev pub Breaks : List Row → Row → Why → Type 0
 Breaks [] row reason = shape_of row ≡ Err reason
 Breaks (first ∷ others) row reason = (shape : Size) × (flows : List Flow) × Begins (first ∷ others) shape flows × BreaksAfterFlows shape flows row reason
 
--- so the bad row stands at this place
+-- so the bad row stands there
 pub record IsBadAt (all : List Row) (bad : BadRow) : Type 0 where
   pub sound : List Row
   pub row : Row

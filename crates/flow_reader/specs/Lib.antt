@@ -1,5 +1,5 @@
-pub mod Fields
 pub mod Opening
 pub mod Steps
 pub mod FirstBad
 pub mod Fit
+pub mod FlowMap

@@ -1,5 +1,5 @@
 -- The rows up to `begin`: the shape of a cluster, and its flows.
-use Rattle.std.specs.Prelude.{ℕ, ◌+◌, ◌==◌, ◌&&◌, nat_le, Bool, if◌then◌else◌, List, [], ◌∷◌, ◌++◌, length, map, Option, Some, None, Result, Ok, Err, codes}
+use Rattle.std.specs.Prelude.{ℕ, ◌+◌, ◌&&◌, nat_le, Bool, if◌then◌else◌, List, [], ◌∷◌, ◌++◌, map, Option, Some, None, Result, Ok, Err, codes}
 use Rattle.std.specs.List.{list_any}
 use Rattle.flow_types.specs.Key.{same_key}
 use Rattle.flow_types.specs.Size.{Size, fewest_blocks, fewest_nodes, most_blocks, most_nodes}
@@ -9,16 +9,11 @@ use Rattle.flow_types.specs.declared.why.BadRow.{BadRow}
 use Rattle.flow_types.specs.declared.why.Why.{Why}
 use Rattle.flow_types.specs.declared.why.Why.TheVariants as why
 use Rattle.csv_rows.specs.Rows.{Row, field_at}
-use Rattle.flow_reader.specs.Fields.{and_then, flow_of, is_kind, number_field}
+use Rattle.row_fields.specs.Fields.{and_then, flow_of, is_kind, number_field, with_fields}
+use Rattle.row_fields.specs.Refused.{bad_row}
 use Rattle.flow_reader.specs.declared.opening.Opening.{Opening}
-use Rattle.flow_reader.specs.declared.opening.RowRefused.{RowRefused}
-use Rattle.flow_reader.specs.declared.opening.RowRefused.TheVariants as refused
 
--- what the fields of a row say, where it has so many
-abbrev pub with_fields : {A : Type 0} → ℕ → Row → Result A Why → Result A Why
-with_fields count row reading = if length row == count then reading else Err why.Fields
-
--- the shape of so many nodes and blocks
+-- the shape of these numbers of nodes and blocks, where there is one
 abbrev pub shape_with : ℕ → ℕ → Result Size Why
 shape_with nodes blocks =
     if nat_le fewest_nodes nodes && nat_le nodes most_nodes && nat_le fewest_blocks blocks && nat_le blocks most_blocks
@@ -64,9 +59,6 @@ adds flows (Some flow) = if has_key flow.key flows then Err why.Duplicate else O
 abbrev pub row_after_flows : ℕ → List Flow → Row → Result (Option Flow) Why
 row_after_flows nodes flows row = and_then (later_row nodes row) (adds flows)
 
-abbrev pub bad_row : ℕ → Why → BadRow
-bad_row row reason = record { row = row; why = reason }
-
 -- the flows with the one that a row says, where it says one
 abbrev pub with_said : List Flow → Result (Option Flow) Why → List Flow
 with_said flows (Ok (Some flow)) = flows ++ flow ∷ []
@@ -95,8 +87,3 @@ opening_after rest (Err reason) = Err (bad_row 1 reason)
 unfoldable pub opening_of : List Row → Result Opening BadRow
 opening_of [] = Err (bad_row 1 why.NoBegin)
 opening_of (row ∷ rest) = opening_after rest (shape_of row)
-
--- the bad row that a refusal names; none at want of memory
-abbrev pub named_row : RowRefused → Option BadRow
-named_row (refused.Bad bad) = Some bad
-named_row refused.OutOfMemory = None

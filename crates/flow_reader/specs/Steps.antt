@@ -5,9 +5,10 @@ use Rattle.flow_types.specs.declared.record.Flow.{Flow}
 use Rattle.flow_types.specs.declared.why.BadRow.{BadRow}
 use Rattle.flow_types.specs.declared.why.Why.{Why}
 use Rattle.csv_rows.specs.Rows.{Row}
-use Rattle.flow_reader.specs.Opening.{named_row, opening_from, opening_of}
+use Rattle.row_fields.specs.Refused.{named_row}
+use Rattle.flow_reader.specs.Opening.{opening_from, opening_of}
 use Rattle.flow_reader.specs.declared.opening.Opening.{Opening}
-use Rattle.flow_reader.specs.declared.opening.RowRefused.{RowRefused}
+use Rattle.row_fields.specs.declared.refused.RowRefused.{RowRefused}
 
 -- the first of the rows says this shape
 abbrev pub SaysShape : List Row → List Row → Result Size RowRefused → Type 0

@@ -1,4 +1,4 @@
-ghost use Rattle.std.specs.Prelude.{◌≡◌, ◌++◌, ◌∷◌, [], not, if◌then◌else◌, IfOk};
+ghost use Rattle.std.specs.Prelude.{◌≡◌, ◌++◌, ◌∷◌, [], not, if◌then◌else◌, length, IfOk};
 ghost use Rattle.flow_reader.specs.Opening.{has_key};
 
 use crate::opening::Flows;
@@ -8,7 +8,7 @@ use out_of_memory::OutOfMemory;
 use std::alloc::Global;
 use std::marker::Model;
 
-/// The flows of the rows read so far, with a set of their keys.
+/// The flows that were taken so far, with a set of their keys.
 #[derive(Drop)]
 pub(crate) struct KnownFlows {
     flows: Vec<Flow>,
@@ -35,6 +35,12 @@ impl KnownFlows {
             flows: Vec::new(alloc),
             keys: IndexSet::new(alloc),
         }
+    }
+
+    pub(crate) fn len(&self) -> usize
+        ensures { result ≡ length self.now }
+    {
+        self.flows.len()
     }
 
     /// Adds a flow, unless one with its key is there, and says whether it did.

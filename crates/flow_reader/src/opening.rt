@@ -1,7 +1,6 @@
 ghost use Rattle.std.specs.Prelude.{◌≡◌};
 
-use flow_types::{BadRow, Flow, Shape};
-use out_of_memory::OutOfMemory;
+use flow_types::{Flow, Shape};
 use std::alloc::AllocError;
 use std::marker::Model;
 
@@ -72,24 +71,5 @@ impl Clone for Opening {
             flows: self.flows.clone()?,
             begin_row: self.begin_row,
         })
-    }
-}
-
-/// Why an input isn't read.
-#[derive(Clone, Copy, Debug, PartialEq, Eq)]
-pub enum RowRefused {
-    /// The first row that breaks a rule.
-    Bad(BadRow),
-    /// Memory that the call asked for was not there.
-    OutOfMemory,
-}
-
-impl From<OutOfMemory> for RowRefused {
-    ghost use Rattle.flow_reader.specs.declared.opening.RowRefused.TheVariants as refused;
-
-    ghost from_gives = { λ _ e. e ≡ refused.OutOfMemory };
-
-    fn from(_error: OutOfMemory) -> RowRefused {
-        RowRefused::OutOfMemory
     }
 }

@@ -2,9 +2,9 @@ ghost use Rattle.std.specs.Prelude.{◌≡◌};
 ghost use Rattle.csv_rows.specs.Rows.{fields_of};
 ghost use Rattle.flow_reader.specs.Opening.{later_row, shape_of};
 
-use crate::fields::{flow_of, is_kind, number_field};
 use csv_rows::{ByteRecord, field};
 use flow_types::{Flow, Shape, Why};
+use row_fields::{flow_of, is_kind, number_field};
 
 /// The shape that the first row says.
 #[tactic(auto, unfolding(crate::specs::Opening::shape_of))]

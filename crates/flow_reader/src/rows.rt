@@ -3,16 +3,18 @@ ghost use Rattle.out_of_memory.specs.Answer.{Answers};
 ghost use Rattle.flow_types.specs.Input.{most_octets};
 ghost use Rattle.csv_rows.specs.Reading.{IsReading, rows_left};
 ghost use Rattle.csv_rows.specs.Rows.{fields_of, rows};
+ghost use Rattle.row_fields.specs.Refused.{named_row};
 ghost use Rattle.flow_reader.specs.FirstBad.{IsOpening};
 ghost use Rattle.flow_reader.specs.Fit.{IsFit};
-ghost use Rattle.flow_reader.specs.Opening.{bad_row, named_row, opening_from, opening_of, row_after_flows};
+ghost use Rattle.flow_reader.specs.Opening.{opening_from, opening_of, row_after_flows};
 ghost use Rattle.flow_reader.specs.Steps.{BeginsAt, SaysShape, TakesIn};
 
 use crate::known::KnownFlows;
-use crate::opening::{Opening, RowRefused};
+use crate::opening::Opening;
 use crate::row::{later_row, shape_of};
 use csv_rows::{ByteRecord, RowReader};
-use flow_types::{BadRow, Shape, Why};
+use flow_types::{Shape, Why};
+use row_fields::{RowRefused, refusal};
 use std::alloc::Global;
 
 /// Reads the rows of the bytes up to `begin`: a `cluster` row, then `flow` rows, then `begin`. What comes after `begin`
@@ -55,12 +57,6 @@ pub fn read_opening_from(alloc: Global, reader: &mut RowReader<'_>) -> Result<Op
         flows: known.into_flows(),
         begin_row,
     })
-}
-
-fn refusal(row: u32, why: Why) -> RowRefused
-    ensures { result ≡ RowRefused.Bad (bad_row row why) }
-{
-    RowRefused::Bad(BadRow { row, why })
 }
 
 /// Reads the first row.

@@ -7,7 +7,7 @@ use Rattle.std.specs.List.{slice_split, onto_first}
 use Rattle.flow_types.specs.Octet.{octet_with}
 use Rattle.flow_types.specs.Text.{address_of_octets, address_value, is_dot, number_value, with_octet}
 
--- the address of these octets before it and of the parts, where so many dots are left; the first part follows the digits so far
+-- the address of these octets before it and of the parts, where this number of dots is left; the first part follows the digits so far
 unfoldable pub parts_say : ℕ → Option ℕ → Option ℕ → List (List ℕ) → Option ℕ
 parts_say dots upper octet [] = None
 parts_say zero upper octet (part ∷ []) = with_octet upper (octet_with octet part)
@@ -171,7 +171,7 @@ module _ (upper i : ℕ) (text : List ℕ) where
   pub ends_at_dot : (dots : ℕ) → length text ≤ i → dots ≡ 0 → text_says dots upper None (drop i text) ≡ None
   ends_at_dot dots past none = rw (none, drop_all i text past) (text_ends upper None ∙ rw without_digits refl)
 
--- how great the octets before can be where so many dots are left
+-- how great the octets before can be where this number of dots is left
 unfoldable pub bound : ℕ → ℕ
 bound zero = 16777216
 bound (suc zero) = 65536

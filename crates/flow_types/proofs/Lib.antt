@@ -6,6 +6,8 @@ pub mod Elements
 pub mod KeyedFlows
 pub mod Numerals
 pub mod Octets
+pub mod Prefixes
 pub mod Reading
 pub mod SameKeys
 pub mod ValueBits
+pub mod KeyNumbers

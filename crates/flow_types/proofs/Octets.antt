@@ -3,60 +3,52 @@ use Rattle.std.proofs.Common.{◌≡◌, ℕ, ◌^◌, ◌<◌, List, [], ◌∷
 use Rattle.std.specs.Int.{byte_at, from_be_bytes}
 use Rattle.std.proofs.lemmas.Slice.Eq.{text_from_reads}
 use Rattle.flow_types.specs.declared.key.FlowKey.{FlowKey}
-use Rattle.flow_types.specs.Key.{number, octets}
+use Rattle.flow_types.specs.Key.{IsKeyValue, number, octets}
 
--- a key whose fields fit their types
-pub record HasFields (k : FlowKey) : Type 0 where
-  pub source : k.source < 2 ^ 32
-  pub destination : k.destination < 2 ^ 32
-  pub source_port : k.source_port < 2 ^ 16
-  pub destination_port : k.destination_port < 2 ^ 16
-  pub protocol : k.protocol < 2 ^ 8
-
-source_3 : (k : FlowKey) → HasFields k → byte_at 12 (number k) ≡ byte_at 3 k.source
+source_3 : (k : FlowKey) → IsKeyValue k → byte_at 12 (number k) ≡ byte_at 3 k.source
 source_3 k h = omega arith
 
-source_2 : (k : FlowKey) → HasFields k → byte_at 11 (number k) ≡ byte_at 2 k.source
+source_2 : (k : FlowKey) → IsKeyValue k → byte_at 11 (number k) ≡ byte_at 2 k.source
 source_2 k h = omega arith
 
-source_1 : (k : FlowKey) → HasFields k → byte_at 10 (number k) ≡ byte_at 1 k.source
+source_1 : (k : FlowKey) → IsKeyValue k → byte_at 10 (number k) ≡ byte_at 1 k.source
 source_1 k h = omega arith
 
-source_0 : (k : FlowKey) → HasFields k → byte_at 9 (number k) ≡ byte_at 0 k.source
+source_0 : (k : FlowKey) → IsKeyValue k → byte_at 9 (number k) ≡ byte_at 0 k.source
 source_0 k h = omega arith
 
-destination_3 : (k : FlowKey) → HasFields k → byte_at 8 (number k) ≡ byte_at 3 k.destination
+destination_3 : (k : FlowKey) → IsKeyValue k → byte_at 8 (number k) ≡ byte_at 3 k.destination
 destination_3 k h = omega arith
 
-destination_2 : (k : FlowKey) → HasFields k → byte_at 7 (number k) ≡ byte_at 2 k.destination
+destination_2 : (k : FlowKey) → IsKeyValue k → byte_at 7 (number k) ≡ byte_at 2 k.destination
 destination_2 k h = omega arith
 
-destination_1 : (k : FlowKey) → HasFields k → byte_at 6 (number k) ≡ byte_at 1 k.destination
+destination_1 : (k : FlowKey) → IsKeyValue k → byte_at 6 (number k) ≡ byte_at 1 k.destination
 destination_1 k h = omega arith
 
-destination_0 : (k : FlowKey) → HasFields k → byte_at 5 (number k) ≡ byte_at 0 k.destination
+destination_0 : (k : FlowKey) → IsKeyValue k → byte_at 5 (number k) ≡ byte_at 0 k.destination
 destination_0 k h = omega arith
 
-source_port_1 : (k : FlowKey) → HasFields k → byte_at 4 (number k) ≡ byte_at 1 k.source_port
+source_port_1 : (k : FlowKey) → IsKeyValue k → byte_at 4 (number k) ≡ byte_at 1 k.source_port
 source_port_1 k h = omega arith
 
-source_port_0 : (k : FlowKey) → HasFields k → byte_at 3 (number k) ≡ byte_at 0 k.source_port
+source_port_0 : (k : FlowKey) → IsKeyValue k → byte_at 3 (number k) ≡ byte_at 0 k.source_port
 source_port_0 k h = omega arith
 
-destination_port_1 : (k : FlowKey) → HasFields k → byte_at 2 (number k) ≡ byte_at 1 k.destination_port
+destination_port_1 : (k : FlowKey) → IsKeyValue k → byte_at 2 (number k) ≡ byte_at 1 k.destination_port
 destination_port_1 k h = omega arith
 
-destination_port_0 : (k : FlowKey) → HasFields k → byte_at 1 (number k) ≡ byte_at 0 k.destination_port
+destination_port_0 : (k : FlowKey) → IsKeyValue k → byte_at 1 (number k) ≡ byte_at 0 k.destination_port
 destination_port_0 k h = omega arith
 
-last : (k : FlowKey) → HasFields k → byte_at 0 (number k) ≡ k.protocol
+last : (k : FlowKey) → IsKeyValue k → byte_at 0 (number k) ≡ k.protocol
 last k h = omega arith
 
 abbrev pub field_octets : FlowKey → List ℕ
 field_octets k =
     byte_at 3 k.source ∷ byte_at 2 k.source ∷ byte_at 1 k.source ∷ byte_at 0 k.source ∷ byte_at 3 k.destination ∷ byte_at 2 k.destination ∷ byte_at 1 k.destination ∷ byte_at 0 k.destination ∷ byte_at 1 k.source_port ∷ byte_at 0 k.source_port ∷ byte_at 1 k.destination_port ∷ byte_at 0 k.destination_port ∷ k.protocol ∷ []
 
-pub octets_are : (k : FlowKey) → HasFields k → octets k ≡ field_octets k
+pub octets_are : (k : FlowKey) → IsKeyValue k → octets k ≡ field_octets k
 unfolding octets
 octets_are k h = cc (source_3 k h, source_2 k h, source_1 k h, source_0 k h, destination_3 k h, destination_2 k h, destination_1 k h, destination_0 k h, source_port_1 k h, source_port_0 k h, destination_port_1 k h, destination_port_0 k h, last k h)
 
@@ -131,7 +123,7 @@ same_fields : (k l : FlowKey) → k.source ≡ l.source → k.destination ≡ l.
 unfolding made_of
 same_fields k l s d sp dp p = same_makes _ _ _ _ _ _ _ _ _ _ s d sp dp p
 
-pub same_octets : (k l : FlowKey) → HasFields k → HasFields l → octets k ≡ octets l → k ≡ l
+pub same_octets : (k l : FlowKey) → IsKeyValue k → IsKeyValue l → octets k ≡ octets l → k ≡ l
 same_octets k l hk hl e =
     let same : field_octets k ≡ field_octets l = sym (octets_are k hk) ∙ e ∙ octets_are l hl in
     let source = same_long k.source l.source hk.source hl.source (ap (λ bs. get_or bs 0 0) same) (ap (λ bs. get_or bs 1 0) same) (ap (λ bs. get_or bs 2 0) same) (ap (λ bs. get_or bs 3 0) same) in

@@ -1,4 +1,4 @@
--- How many value bits so many nodes need.
+-- How many value bits a number of nodes needs.
 use Rattle.std.proofs.Common.{ℕ, ◌-◌, ◌^◌, ◌<◌, ◌≤◌, arith}
 use Rattle.std.proofs.Math.Pow.{pow_mono}
 use Rattle.flow_types.specs.Size.{AreValueBits}

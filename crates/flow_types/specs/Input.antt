@@ -1,6 +1,6 @@
 -- How large an input may be.
 use Rattle.std.specs.Prelude.{ℕ}
 
--- an input has at most so many octets: 64 MiB
+-- an input has at most 64 MiB, in octets
 abbrev pub most_octets : ℕ
 most_octets = 67108864

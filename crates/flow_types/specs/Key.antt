@@ -1,5 +1,5 @@
 -- A flow key as one number, and as its octets; when two keys are the same.
-use Rattle.std.specs.Prelude.{ℕ, ◌+◌, ◌*◌, ◌/◌, ◌%◌, ◌^◌, ◌==◌, ◌&&◌, Bool, List}
+use Rattle.std.specs.Prelude.{ℕ, ◌+◌, ◌*◌, ◌/◌, ◌%◌, ◌^◌, ◌==◌, ◌&&◌, Bool, List, ◌<◌}
 use Rattle.std.specs.Int.{bytes_high_first}
 use Rattle.flow_types.specs.declared.key.FlowKey.{FlowKey}
 
@@ -26,3 +26,11 @@ abbrev pub same_key : FlowKey → FlowKey → Bool
 same_key a b =
     (a.source == b.source) && ((a.destination == b.destination)
     && ((a.source_port == b.source_port) && ((a.destination_port == b.destination_port) && (a.protocol == b.protocol))))
+
+-- addresses have 32 bits, ports 16, and a protocol 8
+pub record IsKeyValue (key : FlowKey) : Type 0 where
+  pub source : key.source < 2 ^ 32
+  pub destination : key.destination < 2 ^ 32
+  pub source_port : key.source_port < 2 ^ 16
+  pub destination_port : key.destination_port < 2 ^ 16
+  pub protocol : key.protocol < 2 ^ 8

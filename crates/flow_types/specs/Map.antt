@@ -1,9 +1,9 @@
 -- Maps from keys to a node and a record: lists of flows of which no two have one key.
-use Rattle.std.specs.Prelude.{◌≡◌, ◌≢◌, ◌==◌, ◌++◌, ℕ, Bool, not, List, [], ◌∷◌, Option, AllPairs, Contains, filter, find}
+use Rattle.std.specs.Prelude.{◌≡◌, ◌≢◌, ◌<◌, ◌^◌, ◌==◌, ◌++◌, ℕ, Bool, not, List, [], ◌∷◌, Option, AllPairs, Contains, filter, find, All}
 use Rattle.flow_types.specs.declared.key.FlowKey.{FlowKey}
 use Rattle.flow_types.specs.declared.record.Flow.{Flow}
 use Rattle.flow_types.specs.declared.record.Record.{Record}
-use Rattle.flow_types.specs.Key.{number}
+use Rattle.flow_types.specs.Key.{number, IsKeyValue}
 
 -- no two of them have one key
 abbrev pub HaveDistinctKeys : {A : Type 0} → (A → FlowKey) → List A → Type 0
@@ -36,3 +36,12 @@ put new flows = without new.key flows ++ new ∷ []
 -- two maps have the same at each key, in whatever order
 abbrev pub IsSameMap : List Flow → List Flow → Type 0
 IsSameMap flows others = (key : FlowKey) → flow_at key flows ≡ flow_at key others
+
+-- the flows' keys are in range
+abbrev pub HaveKeyValues : List Flow → Type 0
+HaveKeyValues flows = All (λ (flow : Flow). IsKeyValue flow.key) flows
+
+-- a TEID and a base station's address have 32 bits
+pub record IsRecordValue (info : Record) : Type 0 where
+  pub teid : info.teid < 2 ^ 32
+  pub base : info.base < 2 ^ 32

@@ -1,5 +1,5 @@
 -- How many nodes and blocks a cluster has.
-use Rattle.std.specs.Prelude.{ℕ, ◌^◌, ◌<◌, ◌≤◌, nat_le, if◌then◌else◌}
+use Rattle.std.specs.Prelude.{ℕ, ◌^◌, ◌<◌, ◌≤◌, nat_le, if◌then◌else◌, min}
 
 -- what a contract sees of a shape
 pub record Size : Type 0 where
@@ -26,18 +26,22 @@ most_blocks = 256
 abbrev pub most_value_bits : ℕ
 most_value_bits = 4
 
--- so many nodes and blocks make a cluster
+-- a cluster of these numbers of nodes and blocks can be
 pub record IsShape (nodes blocks : ℕ) : Type 0 where
   pub enough_nodes : fewest_nodes ≤ nodes
   pub few_nodes : nodes ≤ most_nodes
   pub enough_blocks : fewest_blocks ≤ blocks
   pub few_blocks : blocks ≤ most_blocks
 
--- how many value bits tell so many nodes apart
+-- how many nodes own blocks: the blocks are dealt to the nodes in turn, so these are the nodes of the least numbers
+abbrev pub owners_in : Size → ℕ
+owners_in size = min size.nodes size.blocks
+
+-- how many value bits tell this number of nodes apart
 abbrev pub value_bits : ℕ → ℕ
 value_bits nodes = if nat_le nodes 2 then 1 else (if nat_le nodes 4 then 2 else (if nat_le nodes 8 then 3 else 4))
 
--- so many bits tell the nodes apart, and no fewer of at least one do
+-- this number of bits tells the nodes apart, and no lesser one from one on does
 pub record AreValueBits (nodes bits : ℕ) : Type 0 where
   pub at_least_one : 1 ≤ bits
   pub enough : nodes ≤ 2 ^ bits

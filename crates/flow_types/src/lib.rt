@@ -9,6 +9,7 @@
 mod address;
 mod key;
 pub mod laws;
+mod limits;
 mod numeral;
 mod record;
 mod shape;
@@ -18,6 +19,7 @@ mod why;
 
 pub use address::{read_address, write_address};
 pub use key::FlowKey;
+pub use limits::MOST_TURNS;
 pub use numeral::read_number;
 pub use record::{Flow, Record};
 pub use shape::Shape;

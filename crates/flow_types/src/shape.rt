@@ -1,5 +1,5 @@
 ghost use Rattle.std.specs.Prelude.{◌≡◌, ◌<◌, ◌≤◌, ◌%◌, ◌↔◌, IsSome, IfSome};
-ghost use Rattle.flow_types.specs.Size.{IsShape, AreValueBits, fewest_blocks, fewest_nodes, most_blocks, most_nodes, most_value_bits, value_bits};
+ghost use Rattle.flow_types.specs.Size.{IsShape, AreValueBits, fewest_blocks, fewest_nodes, most_blocks, most_nodes, most_value_bits, owners_in, value_bits};
 
 use std::marker::Model;
 
@@ -35,7 +35,7 @@ impl Model for Shape {
 }
 
 impl Shape {
-    /// The shape of so many nodes and blocks, or `None` where nodes isn't in 2..=16 or blocks isn't in 1..=256.
+    /// The shape of these numbers of nodes and blocks, or `None` where nodes isn't in 2..=16 or blocks isn't in 1..=256.
     pub fn new(nodes: u16, blocks: u16) -> Option<Shape>
         ensures valid { IsSome result ↔ IsShape nodes blocks }
         ensures value { IfSome result (λ shape. shape ≡ record { nodes = nodes; blocks = blocks }) }
@@ -66,6 +66,16 @@ impl Shape {
     {
         self.blocks
     }
+
+    /// The number of nodes that own blocks, 1..=16: those of the least numbers, as many as both nodes and blocks allow.
+    pub fn owners(&self) -> u8
+        ensures value { result ≡ owners_in self.now }
+        ensures some { 0 < result }
+        ensures most { result ≤ most_nodes }
+    {
+        self.nodes.min(self.blocks) as u8
+    }
+
     /// The number of value bits, 1..=4: the least of at least 1 that tell the nodes apart.
     pub fn value_bits(&self) -> u8
         ensures value { result ≡ value_bits self.now.nodes }

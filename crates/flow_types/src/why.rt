@@ -1,3 +1,6 @@
+use std::error::Error;
+use std::fmt;
+
 /// Why a row of input is refused.
 #[derive(Clone, Copy, Debug, PartialEq, Eq, Hash)]
 pub enum Why {
@@ -33,3 +36,41 @@ pub struct BadRow {
     /// What is wrong with it.
     pub why: Why,
 }
+
+impl fmt::Display for Why {
+    ghost use Rattle.std.specs.Prelude.{Some};
+    ghost use Rattle.flow_types.specs.Refusal.{why_text};
+
+    ghost output = { λ why. Some (why_text why) };
+
+    fn fmt<W: fmt::Write>(&self, f: &mut fmt::Formatter<W>) -> fmt::Result {
+        f.write_str(match self {
+            Why::Fields => "another number of fields than the kind of row has",
+            Why::Kind => "no kind of row or part that may stand here",
+            Why::Number => "a field that is no number in its range",
+            Why::Address => "a field that is no dotted address",
+            Why::Node => "a node that the cluster doesn't have",
+            Why::Duplicate => "a key that an earlier flow has",
+            Why::NoBegin => "the input ends before begin",
+            Why::CarryInStorm => "a carry in a run that has threads",
+            Why::TooManyPhases => "more syncs than a run with threads may have",
+            Why::NoEnd => "the input ends before end",
+            Why::AfterEnd => "a row after end",
+        })
+    }
+}
+
+impl Error for Why {}
+
+impl fmt::Display for BadRow {
+    ghost use Rattle.std.specs.Prelude.{Some};
+    ghost use Rattle.flow_types.specs.Refusal.{bad_row_text};
+
+    ghost output = { λ bad. Some (bad_row_text bad) };
+
+    fn fmt<W: fmt::Write>(&self, f: &mut fmt::Formatter<W>) -> fmt::Result {
+        write!(f, "row {}: {}", self.row, self.why)
+    }
+}
+
+impl Error for BadRow {}

@@ -1,4 +1,4 @@
--- The state after so many draws, without the draws before.
+-- The state after a number of draws, without the draws before.
 use Rattle.std.proofs.Common.{◌≡◌, ◌∙◌, ◌+◌, ◌*◌, ◌%◌, ◌^◌, ◌<◌, ℕ, zero, suc, ap, sym, arith}
 use Rattle.std.proofs.Math.Nat.{add-mod-mod, mod-add-mod}
 use Rattle.grind_rows.specs.Draws.{draw_step, state_after}

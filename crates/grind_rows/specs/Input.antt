@@ -13,7 +13,7 @@ word_row word = line_of (word ∷ [])
 abbrev pub rows_below : (count : ℕ) → (ℕ → List ℕ) → List ℕ
 rows_below count row = concat (map row (range_with_len 0 count))
 
--- the rows of the first flows, so many
+-- the rows of this number of flows, from the first on
 unfoldable pub flow_rows : (seed count : ℕ) → List ℕ
 flow_rows seed count = rows_below count (λ number. flow_row (codes "flow") (flow seed number))
 
@@ -28,7 +28,7 @@ update_row seed update =
 abbrev pub packet_row : (seed number : ℕ) → List ℕ
 packet_row seed number = packet_text (ingress seed number) (packet_key seed (number + 1))
 
--- the rows of so many packets, of whose draws the first has this number
+-- the rows of this number of packets, two draws each, from the draw of the number `first` on
 unfoldable pub packet_rows : (seed first count : ℕ) → List ℕ
 packet_rows seed first count = rows_below count (λ packet. packet_row seed (first + 2 * packet))
 
@@ -40,7 +40,7 @@ sync_rows update = if update % 10 == 9 then word_row (codes "sync") else []
 unfoldable pub turn : (seed update : ℕ) → List ℕ
 turn seed update = update_row seed update ++ packet_rows seed (packets_draw update) 20 ++ sync_rows update
 
--- the rows of the first updates, so many, and of what follows them
+-- the rows of this number of updates, from the first on, and of what follows them
 unfoldable pub turns : (seed count : ℕ) → List ℕ
 turns seed count = rows_below count (turn seed)
 

@@ -27,7 +27,7 @@ pub fn grind_input(alloc: Global, seed: u32) -> Result<Vec<u8>, OutOfMemory>
     Ok(text)
 }
 
-/// Appends the rows of the first flows, so many.
+/// Appends the rows of the first `count` flows.
 fn write_flows(text: &mut Vec<u8>, seed: u32, count: u32) -> Result<(), AllocError>
     requires { count ≤ 16384 }
     ensures written { OnOk result (text.new.items ≡ text.old.items ++ flow_rows seed count) }
@@ -39,7 +39,7 @@ fn write_flows(text: &mut Vec<u8>, seed: u32, count: u32) -> Result<(), AllocErr
     Ok(())
 }
 
-/// Appends the rows of the first updates, so many, and of what follows them.
+/// Appends the rows of the first `count` updates and of what follows them.
 fn write_turns(text: &mut Vec<u8>, seed: u32, count: u32) -> Result<(), AllocError>
     requires { count ≤ 1000 }
     ensures written { OnOk result (text.new.items ≡ text.old.items ++ turns seed count) }

@@ -53,7 +53,7 @@ fn write_update(text: &mut Vec<u8>, seed: u32, update: u32) -> Result<(), AllocE
     }
 }
 
-/// Appends the rows of so many packets, of whose draws the first has this number.
+/// Appends the rows of `count` packets, two draws each, from the draw of the number `first` on.
 fn write_packets(text: &mut Vec<u8>, seed: u32, first: u32, count: u32) -> Result<(), AllocError>
     requires few { count ≤ 20 }
     requires low { first < 2 ^ 30 }

@@ -19,14 +19,14 @@ use Rattle.group_cell.specs.declared.view.Sight.{Sight}
 use Rattle.group_cell.specs.declared.view.ReaderView.{ReaderView}
 use Rattle.group_cell.specs.declared.view.View.{View}
 use Rattle.group_cell.specs.Opening.{Opened}
-use Rattle.group_cell.specs.Layout.{address, data_word, datum}
+use Rattle.group_cell.specs.Layout.{data_words, address, data_word, datum}
 use Rattle.group_cell.specs.Rule.{HasLoad, HasLoaded, Holds, IsEven, nodes_of, latest}
 use Rattle.group_cell.specs.Plays.{reader_view, IsReader, load, begun_look, ended_in, looked}
-use Rattle.group_cell.specs.Seating.{Place, GoesOn, HasBegun, IsLooking, IsFound, Reads, StandsFound, RowsGive, data_loads, forgotten, last_look, loads_of, look_in, the_look}
-use Rattle.group_cell.proofs.Below.{answer_below}
+use Rattle.group_cell.specs.Seating.{CellSeat, GoesOn, HasBegun, IsLooking, IsFound, Reads, StandsFound, RowsGive, data_loads, forgotten, last_look, loads_of, look_in, the_look}
+use Rattle.group_search.proofs.Below.{answer_below}
 use Rattle.group_cell.proofs.Finding.{gives, loads_last, loads_more, stands_found}
 
-two_items : (words : List ℕ) (content : GroupRecord) → length words ≡ 2 → ((j : ℕ) → j < 2 → get_or words j 0 ≡ get_or (words_of content) j 0) → words ≡ words_of content
+two_items : (words : List ℕ) (content : GroupRecord) → length words ≡ 2 → ((j : ℕ) → j < data_words → get_or words j 0 ≡ get_or (words_of content) j 0) → words ≡ words_of content
 two_items [] content two each = absurd (omega arith)
 two_items (a ∷ []) content two each = absurd (omega arith)
 two_items (a ∷ b ∷ []) (Served pairs) two each = λ i. each 0 (omega arith) i ∷ each 1 (omega arith) i ∷ []
@@ -42,7 +42,7 @@ rows_given nodes ws at (Fallback rows) words key found h same stands =
 
 -- what is decoded of a record's words is what the record says
 pub own_answer : (nodes : ℕ) (ws : List ℕ) (at : Home) (content : GroupRecord) (words : List ℕ) (key : FlowKey) (found result : Option ℕ) → Holds nodes ws at content → length words ≡ 2
-    → ((j : ℕ) → j < 2 → get_or words j 0 ≡ datum ws at j) → (2 ^ 48 ≤ get_or words 0 0 → StandsFound ws at 64 key found)
+    → ((j : ℕ) → j < data_words → get_or words j 0 ≡ datum ws at j) → (2 ^ 48 ≤ get_or words 0 0 → StandsFound ws at 64 key found)
     → ((c : GroupRecord) → PacksTo (value_bits nodes) (packed_of c) words → RowsGive c key found → result ≡ decode c nodes key) → result ≡ decode content nodes key
 own_answer nodes ws at content words key found result h two each stands decoded =
     let same = two_items words content two (λ j less. each j less ∙ h.data_words j less) in
@@ -50,7 +50,7 @@ own_answer nodes ws at content words key found result h two each stands decoded 
 
 -- and what is decoded of loaded words is what the record says that they are of
 pub loaded_answer : (nodes : ℕ) (loads : List Load) (at : Home) (content : GroupRecord) (words : List ℕ) (key : FlowKey) (found result : Option ℕ) → HasLoaded nodes loads at content → length words ≡ 2
-    → ((j : ℕ) → j < 2 → HasLoad loads (load (data_word at j) (get_or words j 0))) → (2 ^ 48 ≤ get_or words 0 0 → IsFound loads at 64 key found)
+    → ((j : ℕ) → j < data_words → HasLoad loads (load (data_word at j) (get_or words j 0))) → (2 ^ 48 ≤ get_or words 0 0 → IsFound loads at 64 key found)
     → ((c : GroupRecord) → PacksTo (value_bits nodes) (packed_of c) words → RowsGive c key found → result ≡ decode c nodes key) → result ≡ decode content nodes key
 loaded_answer nodes loads at content words key found result h two each found_is decoded =
     own_answer nodes h.words at content words key found result h.holds two (λ j less. (h.fresh _ (each j less)).data_words j less refl)
@@ -76,7 +76,7 @@ one_more_load before loads loads' at number word found words room here was is =
     ∙ ((λ i. before ++ (sym kept i ++ load (data_word at number) (sym same i) ∷ [])) ∙ ap (λ (n : ℕ). before ++ first_loads at (set words number found) n) next)))
 
 -- each data word is loaded
-pub has_datum : (before loads : List Load) (at : Home) (words : List ℕ) → loads ≡ before ++ data_loads at words → (j : ℕ) → j < 2 → HasLoad loads (load (data_word at j) (get_or words j 0))
+pub has_datum : (before loads : List Load) (at : Home) (words : List ℕ) → loads ≡ before ++ data_loads at words → (j : ℕ) → j < data_words → HasLoad loads (load (data_word at j) (get_or words j 0))
 has_datum before loads at words is j less = subst (λ (ls : List Load). HasLoad ls (x j)) (sym is) (dite (ℕ_discrete j 0)
     (λ e. subst (λ (k : ℕ). HasLoad (before ++ x 0 ∷ x 1 ∷ []) (x k)) (sym e) (subst (λ (ls : List Load). HasLoad ls (x 0)) parts (loads_more (before ++ x 0 ∷ []) (x 1 ∷ []) (x 0) (loads_last before (x 0)))))
     (λ other. let one : j ≡ 1 = omega arith in
@@ -96,7 +96,7 @@ one_more_own ws at number found words room is before j less = dite (ℕ_discrete
     (λ other. get_or-set_other words number j found 0 other ∙ before j (omega arith))
 
 -- a look has begun at an even number
-module _ (s t : Place) (at : Home) (first : ℕ) (h : HasBegun s t at first) where
+module _ (s t : CellSeat) (at : Home) (first : ℕ) (h : HasBegun s t at first) where
   pub last_begun : last_look t ≡ Some (begun_look at first)
   last_begun = ap (λ (m : Me ℕ View). (reader_view m.0).last) h.me
 
@@ -114,7 +114,7 @@ module _ (s t : Place) (at : Home) (first : ℕ) (h : HasBegun s t at first) whe
   }
 
 -- a look has ended with these two numbers
-module _ (s0 s1 s3 t : Place) (at : Home) (first second : ℕ) (h : HasBegun s0 s1 at first) (g : GoesOn s1 s3) (l : IsLooking s3) (e : Reads s3 t (looked second (reader_view s3.me.0))) where
+module _ (s0 s1 s3 t : CellSeat) (at : Home) (first second : ℕ) (h : HasBegun s0 s1 at first) (g : GoesOn s1 s3) (l : IsLooking s3) (e : Reads s3 t (looked second (reader_view s3.me.0))) where
   at_is : (the_look s3).at ≡ address at
   at_is = g.at ∙ ap (λ (q : Sight). q.at) (look_begun s0 s1 at first h)
 
@@ -154,7 +154,7 @@ module _ (opening : Opened) (size : Size) (content : GroupRecord) (words : List 
   by_opening : (c : GroupRecord) → PacksTo (value_bits opening.size.nodes) (packed_of c) words → RowsGive c key found → result ≡ decode c opening.size.nodes key
   by_opening = subst (λ (z : Size). (c : GroupRecord) → PacksTo (value_bits z.nodes) (packed_of c) words → RowsGive c key found → result ≡ decode c z.nodes key) (sym one_size) answers
 
-  module _ (loads : List Load) (at : Home) (whole : HasLoaded opening.size.nodes loads at content) (each : (j : ℕ) → j < 2 → HasLoad loads (load (data_word at j) (get_or words j 0)))
+  module _ (loads : List Load) (at : Home) (whole : HasLoaded opening.size.nodes loads at content) (each : (j : ℕ) → j < data_words → HasLoad loads (load (data_word at j) (get_or words j 0)))
       (found_in : 2 ^ 48 ≤ get_or words 0 0 → IsFound loads at 64 key found) where
     pub node_is : result ≡ decode content opening.size.nodes key
     node_is = loaded_answer opening.size.nodes loads at content words key found result whole two each found_in by_opening
@@ -162,7 +162,7 @@ module _ (opening : Opened) (size : Size) (content : GroupRecord) (words : List 
     pub node_below : IfSome result (λ node. node < opening.size.nodes)
     node_below = answer_below opening.size.nodes content key result whole.holds.in_cluster node_is
 
-  module _ (ws : List ℕ) (at : Home) (holds : Holds opening.size.nodes ws at content) (each : (j : ℕ) → j < 2 → get_or words j 0 ≡ datum ws at j)
+  module _ (ws : List ℕ) (at : Home) (holds : Holds opening.size.nodes ws at content) (each : (j : ℕ) → j < data_words → get_or words j 0 ≡ datum ws at j)
       (stands : 2 ^ 48 ≤ get_or words 0 0 → StandsFound ws at 64 key found) where
     pub own_node : result ≡ decode content opening.size.nodes key
     own_node = own_answer opening.size.nodes ws at content words key found result holds two each stands by_opening

@@ -14,10 +14,11 @@ use Rattle.group_search.specs.declared.rows.Row.{Row}
 use Rattle.group_search.specs.Home.{Home}
 use Rattle.group_search.specs.Decoding.{node_of}
 use Rattle.group_search.specs.Rows.{key_number, IsRising}
+use Rattle.group_search.specs.RowWords.{SpellsRow}
 use Rattle.group_search.proofs.RowWordLemmas.{spells_one_row}
 use Rattle.group_cell.specs.declared.view.Load.{Load}
 use Rattle.group_cell.specs.Layout.{low_word, high_word, low, high, place_words, tag}
-use Rattle.group_cell.specs.Rule.{HasLoad, Holds, HasRow, IsFresh, RowsStand}
+use Rattle.group_cell.specs.Rule.{HasLoad, Holds, IsFresh, IsRow, RowsStand}
 use Rattle.group_cell.specs.Plays.{load}
 use Rattle.group_cell.proofs.Groups.{tag_of_row}
 use Rattle.group_cell.specs.Seating.{IsFound, StandsFound, LacksKey, GivesNode, RowsGive}
@@ -68,6 +69,10 @@ by_test : (b : Bool) (row : Row) (rest : Option Row) → option_map (λ (r : Row
 by_test true row rest = refl
 by_test false row rest = refl
 
+-- the row stands in the list
+abbrev pub HasRow : List Row → Row → Type 0
+HasRow rows row = (i : ℕ) × IsRow rows i row
+
 pub node_of_row : (key : FlowKey) (rows : List Row) → IsRising rows → (x : Row) → HasRow rows x → key_number x ≡ number key → node_of key rows ≡ Some x.node
 node_of_row key rows rising x h is = go rows rising h.0 h.1
   where
@@ -88,12 +93,13 @@ node_of_none key (row ∷ rows) none =
 
 -- the node found is the one that the rows give
 pub rows_give : (words : List ℕ) (at : Home) (rows : List Row) (key : FlowKey) (found : Option ℕ) → RowsStand words at rows → IsRising rows → StandsFound words at 64 key found → node_of key rows ≡ found
-rows_give words at rows key None s rising none = node_of_none key rows (λ x has. let t = s.onto x has in
-    none t.0 t.1 (tag_of_row at.group x (low words at.block t.0) (high words at.block t.0) t.2) at.group x t.2)
+rows_give words at rows key None s rising none = node_of_none key rows (λ x has. let k : ℕ = s.place_of has.0 in let held = s.holds has.0 x has.1 in
+    none k (s.inside has.0 x has.1) (tag_of_row at.group x (low words at.block k) (high words at.block k) held) at.group x held)
 rows_give words at rows key (Some node) s rising t =
-    let u = s.into t.0 t.1 t.2 in let g = t.3 in
-    let same = spells_one_row at.group g.0 u.0 g.1 (place_words words at.block t.0) u.2 g.2 in
-    node_of_row key rows rising u.0 u.1 (ap key_number same.1 ∙ g.3) ∙ ap Some (ap (λ (x : Row). x.node) same.1 ∙ g.4)
+    let u = s.tagged t.0 t.1 t.2 in let g = t.3 in
+    let held = subst (λ (k : ℕ). SpellsRow at.group u.1 (place_words words at.block k)) u.3 (s.holds u.0 u.1 u.2) in
+    let same = spells_one_row at.group g.0 u.1 g.1 (place_words words at.block t.0) held g.2 in
+    node_of_row key rows rising u.1 (u.0, u.2) (ap key_number same.1 ∙ g.3) ∙ ap Some (ap (λ (x : Row). x.node) same.1 ∙ g.4)
 
 pub gives : (nodes : ℕ) (words : List ℕ) (at : Home) (content : GroupRecord) (key : FlowKey) (found : Option ℕ) → Holds nodes words at content → StandsFound words at 64 key found → RowsGive content key found
 gives nodes words at (Served pairs) key found h t = tt

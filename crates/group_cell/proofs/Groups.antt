@@ -1,5 +1,5 @@
 -- What a store of one word leaves of the groups.
-use Rattle.std.proofs.Common.{◌≡◌, ℕ, ◌+◌, ◌/◌, ◌^◌, ◌<◌, ◌≢◌, ◌⊎◌, inl, inr, ⊎_elim, List, [], ◌∷◌, length, set, refl, sym, ap, ◌∙◌, subst, arith, get_or-set_other, get_or-set_same}
+use Rattle.std.proofs.Common.{◌≡◌, ℕ, ◌+◌, ◌/◌, ◌^◌, ◌<◌, ◌≤◌, ◌≢◌, ◌⊎◌, inl, inr, ⊎_elim, List, [], ◌∷◌, length, get_or, set, refl, sym, ap, ◌∙◌, subst, arith, get_or-set_other, get_or-set_same}
 use mathlib.Core.Logic.{dite}
 use native.Mathlib.Decide.{ℕ_discrete}
 use Rattle.group_search.specs.declared.record.GroupRecord.{GroupRecord}
@@ -7,8 +7,8 @@ use Rattle.group_search.specs.declared.rows.Row.{Row}
 use Rattle.group_search.specs.Home.{Home}
 use Rattle.group_search.specs.RowWords.{SpellsRow}
 use Rattle.group_search.proofs.RowWordLemmas.{group_above}
-use Rattle.group_cell.specs.Layout.{home_of_word, low_word, high_word, sequence_word, data_word, low, high, place_words, sequence, datum, tag}
-use Rattle.group_cell.specs.Rule.{RowsStand, Holds, rows_placed}
+use Rattle.group_cell.specs.Layout.{data_words, home_of_word, low_word, high_word, sequence_word, data_word, low, high, place_words, sequence, datum, tag}
+use Rattle.group_cell.specs.Rule.{AreTagged, RowsStand, Holds, rows_placed}
 use Rattle.group_cell.specs.Changes.{SameGroup, Untouched}
 use Rattle.group_cell.proofs.Versions.{one_home}
 
@@ -25,10 +25,12 @@ module _ (at : Home) (words words' : List ℕ) (same : SameGroup at words words'
 
   pub rows_on : (rows : List Row) → RowsStand words at rows → RowsStand words' at rows
   rows_on rows s = record {
-    into = λ k less is. let e = same.rows k less (inr is) in let t = s.into k less (ap tag (sym e.0) ∙ is) in
-        (t.0, t.1, subst (SpellsRow at.group t.0) (sym (same_place k e)) t.2);
-    onto = λ row has. let t = s.onto row has in let e = same.rows t.0 t.1 (inl (tag_of_row at.group row (low words at.block t.0) (high words at.block t.0) t.2)) in
-        (t.0, t.1, subst (SpellsRow at.group row) (sym (same_place t.0 e)) t.2);
+    place_of = s.place_of;
+    inside = s.inside;
+    holds = λ i row is. let k : ℕ = s.place_of i in let t = s.holds i row is in
+        let e = same.rows k (s.inside i row is) (inl (tag_of_row at.group row (low words at.block k) (high words at.block k) t)) in subst (SpellsRow at.group row) (sym (same_place k e)) t;
+    apart = s.apart;
+    tagged = λ k less is. let e = same.rows k less (inr is) in s.tagged k less (ap tag (sym e.0) ∙ is);
   }
 
   pub holds_on : (nodes : ℕ) (content : GroupRecord) → Holds nodes words at content → Holds nodes words' at content
@@ -141,13 +143,27 @@ untouched-trans at a b c s t = record {
 pub rows_at : (ws ws' : List ℕ) (at at' : Home) → at'.group ≡ at.group → ((k : ℕ) → k < 64 → (high ws' at'.block k ≡ high ws at.block k) × (low ws' at'.block k ≡ low ws at.block k))
     → (rows : List Row) → RowsStand ws at rows → RowsStand ws' at' rows
 rows_at ws ws' at at' group same rows s = record {
-  into = λ k less is. let e = same k less in let t = s.into k less (ap tag (sym e.0) ∙ (is ∙ ap (λ (g : ℕ). g + 1) group)) in
-      (t.0, t.1, subst (λ (x : ℕ × List ℕ). SpellsRow x.0 t.0 x.1) (λ i. (sym group i, sym e.1 i ∷ sym e.0 i ∷ [])) t.2);
-  onto = λ row has. let t = s.onto row has in let e = same t.0 t.1 in
-      (t.0, t.1, subst (λ (x : ℕ × List ℕ). SpellsRow x.0 row x.1) (λ i. (sym group i, sym e.1 i ∷ sym e.0 i ∷ [])) t.2);
+  place_of = s.place_of;
+  inside = s.inside;
+  holds = λ i row is. let e = same (s.place_of i) (s.inside i row is) in subst (λ (x : ℕ × List ℕ). SpellsRow x.0 row x.1) (λ j. (sym group j, sym e.1 j ∷ sym e.0 j ∷ [])) (s.holds i row is);
+  apart = s.apart;
+  tagged = λ k less is. let e = same k less in s.tagged k less (ap tag (sym e.0) ∙ (is ∙ ap (λ (g : ℕ). g + 1) group));
 }
 
-pub holds_at : (nodes : ℕ) (ws ws' : List ℕ) (at at' : Home) (content : GroupRecord) → at'.group ≡ at.group → ((j : ℕ) → j < 2 → datum ws' at' j ≡ datum ws at j)
+-- a store of another word leaves the tags
+pub tags_beside : (words : List ℕ) (blocks i n : ℕ) → ((block k : ℕ) → k < 64 → high_word block k ≢ i) → AreTagged words blocks → AreTagged (set words i n) blocks
+tags_beside words blocks i n beside t = λ block k in_table less. subst (λ (x : ℕ). tag x ≤ 64) (sym (get_or-set_other words i (high_word block k) n 0 (beside block k less))) (t block k in_table less)
+
+-- a place becomes free, or a group's
+pub tags_here : (words : List ℕ) (blocks block k n : ℕ) → high_word block k < length words → tag n ≤ 64 → AreTagged words blocks → AreTagged (set words (high_word block k) n) blocks
+tags_here words blocks block k n room small t = λ b i in_table less. dite (ℕ_discrete (high_word b i) (high_word block k))
+    (λ e. subst (λ (x : ℕ). tag x ≤ 64) (sym (ap (λ (j : ℕ). get_or (set words (high_word block k) n) j 0) e ∙ get_or-set_same words (high_word block k) n 0 room)) small)
+    (λ other. subst (λ (x : ℕ). tag x ≤ 64) (sym (get_or-set_other words (high_word block k) (high_word b i) n 0 other)) (t b i in_table less))
+
+pub tag_of_own : (group word : ℕ) → group < 64 → IsOwn group word → tag word ≤ 64
+tag_of_own group word few own = ⊎_elim (λ (e : tag word ≡ 0). omega arith) (λ (e : tag word ≡ group + 1). omega arith) own
+
+pub holds_at : (nodes : ℕ) (ws ws' : List ℕ) (at at' : Home) (content : GroupRecord) → at'.group ≡ at.group → ((j : ℕ) → j < data_words → datum ws' at' j ≡ datum ws at j)
     → ((k : ℕ) → k < 64 → (high ws' at'.block k ≡ high ws at.block k) × (low ws' at'.block k ≡ low ws at.block k)) → Holds nodes ws at content → Holds nodes ws' at' content
 holds_at nodes ws ws' at at' content group data_words places h = record {
   data_words = λ j two. data_words j two ∙ h.data_words j two;

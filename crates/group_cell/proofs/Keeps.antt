@@ -14,11 +14,11 @@ use Rattle.group_cell.specs.declared.view.ReaderView.{ReaderView}
 use Rattle.group_cell.specs.declared.view.View.{View}
 use Rattle.group_cell.specs.declared.view.View.TheVariants.{Writer, Reader, Spent}
 use Rattle.group_cell.specs.Opening.{Opened}
-use Rattle.group_cell.specs.Layout.{address, home_of, home_of_word, high, high_word, low_word, data_word, sequence_word, sequence, tag}
+use Rattle.group_cell.specs.Layout.{data_words, address, home_of, home_of_word, high, high_word, low_word, data_word, sequence_word, sequence, tag}
 use Rattle.group_cell.specs.Rule.{IsIn, Holds, nodes_of, Stands, Sees, AgreesWith, Kept}
 use Rattle.group_cell.specs.Plays.{writer_view, reader_view, IsWriter, IsReader, begun, stored, ended, looking, loaded, load, looked, Asks, Begins, Stores, Ends, StartsLook, Loads, EndsLook}
 use Rattle.group_cell.specs.Changes.{Untouched}
-use Rattle.group_cell.proofs.Groups.{IsOwn, home_back, own_word, low_of_free, high_of_own, sequence_above_low, sequence_above_high}
+use Rattle.group_cell.proofs.Groups.{IsOwn, home_back, own_word, low_of_free, high_of_own, sequence_above_low, sequence_above_high, tag_of_own, tags_beside, tags_here}
 use Rattle.group_cell.proofs.Writing.{Moves, sees_on, stays_put, begins_moves, begins_stands, stores_moves, stores_stands, ends_moves, ends_stands}
 use Rattle.group_cell.proofs.Reading.{starts, halves, loads, reads_whole, ends}
 
@@ -135,15 +135,20 @@ module _ {S : Type 0} (key : Opened) where
           (λ s e. let in_w = in_view e in (refl, ap (λ (k : ℕ). set w.words k even) (sym here), ends_moves w at in_w s content even up, ends_stands w at in_w s content even up writing room (holds e))))
 
       -- a data word
-      pub stores_datum : (j word n : ℕ) → w.writing ≡ Some (address at) → j < 2 → word ≡ data_word at j → Allows Rule slots id me word (λ _. n) (λ _. Stores (step slots word n 0 none) me n)
+      pub stores_datum : (j word n : ℕ) → w.writing ≡ Some (address at) → j < data_words → word ≡ data_word at j → Allows Rule slots id me word (λ _. n) (λ _. Stores (step slots word n 0 none) me n)
       stores_datum j word n writing two here =
           weaken slots id me word (λ _. n) (Made me word (stored word n w)) (λ _. Stores (step slots word n 0 none) me n) (λ x m h. h.0)
           (writer_steps slots id me word n (λ _. n) (stored word n w) is
           (λ s e. let in_w = in_view e in
           let i_is : sequence_word at + (j + 1) ≡ word = omega arith in
           let others = λ (h : Home) (in_table : IsIn w.opening h) (apart : h ≢ at). subst (λ (i : ℕ). Untouched h w.words (set w.words i n)) i_is (own_word at inside.group w.words (j + 1) n (omega arith) h in_table.group apart) in
-          let version : sequence (set w.words word n) at ≡ sequence w.words at = get_or-set_other w.words word (sequence_word at) n 0 (λ x. omega arith) in
-          (refl, refl, stores_moves w at in_w s writing word n others version, stores_stands w at in_w s writing word n others version)))
+          let version : sequence (set w.words word n) at ≡ sequence w.words at = get_or-set_other w.words word (sequence_word at) n 0 (λ x. omega arith) in (
+            refl,
+            refl,
+            stores_moves w at in_w s writing word n others version,
+            stores_stands w at in_w s writing word n others version
+                (tags_beside w.words (length w.opening.images) word n (λ block k less x. let g = inside.group in omega arith) s.places),
+          )))
 
       -- the first word of a free place
       pub stores_low : (k word n : ℕ) → w.writing ≡ Some (address at) → k < 64 → tag (high w.words at.block k) ≡ 0 → word ≡ low_word at.block k → Allows Rule slots id me word (λ _. n) (λ _. Stores (step slots word n 0 none) me n)
@@ -153,8 +158,13 @@ module _ {S : Type 0} (key : Opened) where
           (writer_steps slots id me (low_word at.block k) n (λ _. n) (stored (low_word at.block k) n w) is
           (λ s e. let in_w = in_view e in
           let others = λ (h : Home) (in_table : IsIn w.opening h) (_ : h ≢ at). low_of_free w.words at.block k n less free h in_table.group in
-          let version = sequence_above_low w.words at.block k n less at inside.group in
-          (refl, refl, stores_moves w at in_w s writing (low_word at.block k) n others version, stores_stands w at in_w s writing (low_word at.block k) n others version))))
+          let version = sequence_above_low w.words at.block k n less at inside.group in (
+            refl,
+            refl,
+            stores_moves w at in_w s writing (low_word at.block k) n others version,
+            stores_stands w at in_w s writing (low_word at.block k) n others version
+                (tags_beside w.words (length w.opening.images) (low_word at.block k) n (λ block i less' x. omega arith) s.places),
+          ))))
 
       -- the second word of a place that is free or the group's
       pub stores_high : (k word n : ℕ) → w.writing ≡ Some (address at) → k < 64 → IsOwn at.group (high w.words at.block k) → IsOwn at.group n → word ≡ high_word at.block k
@@ -166,8 +176,13 @@ module _ {S : Type 0} (key : Opened) where
           (λ s e. let in_w = in_view e in
           let room : high_word at.block k < length w.words = (let wide = s.wide in let b = in_w.block in omega arith) in
           let others = λ (h : Home) (in_table : IsIn w.opening h) (apart : h ≢ at). high_of_own w.words at.block k n less at refl room was now h in_table.group apart in
-          let version = sequence_above_high w.words at.block k n less at inside.group in
-          (refl, refl, stores_moves w at in_w s writing (high_word at.block k) n others version, stores_stands w at in_w s writing (high_word at.block k) n others version))))
+          let version = sequence_above_high w.words at.block k n less at inside.group in (
+            refl,
+            refl,
+            stores_moves w at in_w s writing (high_word at.block k) n others version,
+            stores_stands w at in_w s writing (high_word at.block k) n others version
+                (tags_here w.words (length w.opening.images) at.block k n room (tag_of_own at.group n inside.group now) s.places),
+          ))))
 
   -- a reader's steps
   module _ (slots id : ℕ) (me : Me S View) (is : IsReader me.0) where

@@ -1,10 +1,9 @@
--- The words of a table before it is opened_with.
+-- The words of a table before it is opened.
 use Rattle.std.proofs.Common.{◌≡◌, ℕ, zero, suc, ◌+◌, ◌-◌, ◌*◌, ◌<◌, ◌≤◌, ◌≢◌, List, [], ◌∷◌, ◌++◌, length, get_or, set, replicate, refl, sym, ap, ◌∙◌, subst, arith, cond, eqb, length-set, length-append, get_or-set_other, get_or-set_same, inl, inr}
 use Rattle.std.proofs.lemmas.List.Folds.{sum_by-replicate}
 use Rattle.std.proofs.lemmas.List.{get_or-append_right}
 use mathlib.Core.Logic.{dite}
 use native.Mathlib.Decide.{ℕ_discrete}
-use mathlib.Core.Option.{some-ne-none}
 use lib.ListN.{get_or-append}
 use lib.Seq.{get_or-append_seam}
 use Rattle.flow_types.specs.Size.{value_bits}
@@ -17,12 +16,12 @@ use Rattle.group_search.specs.Published.{opening_record}
 use Rattle.group_search.specs.Words.{HasBits, PacksTo, packed_of, words_of}
 use Rattle.group_cell.specs.Changes.{Untouched}
 use Rattle.group_cell.specs.Laying.{AreLaid, IsBare, IsBlockLaid, IsLaid, LeavesOthers, in_front}
-use Rattle.group_cell.specs.Layout.{low_word, high_word, data_word, sequence_word, high, sequence, datum, tag}
+use Rattle.group_cell.specs.Layout.{block_words, data_words, low_word, high_word, data_word, sequence_word, high, sequence, datum, tag}
 use Rattle.group_cell.specs.Rule.{IsSoundRecord, RowsStand, rows_placed}
 use Rattle.group_cell.specs.Seating.{AreOwners, places_of}
 use Rattle.group_cell.proofs.Versions.{one_home}
 use Rattle.group_cell.proofs.Groups.{holds_at, holds_on, high_of_own, low_of_free, own_word, rows_at, rows_on, sequence_above_high, sequence_above_low, untouched-self, untouched-trans}
-use Rattle.group_cell.proofs.Placing.{none_left, owner_set, owners_low, owners_on, places_kept}
+use Rattle.group_cell.proofs.Placing.{no_rows, none_left, owner_set, owners_low, owners_on, places_kept}
 
 pub leaves-self : (at : Home) (words owners : List ℕ) → LeavesOthers at words words owners owners
 leaves-self at words owners = record { wide = refl; groups = λ other _ _. untouched-self other words; places = λ o _ _. refl }
@@ -66,7 +65,7 @@ module _ (words owners : List ℕ) (g k first second i j : ℕ) (few : g < 64) (
       ∙ (sequence_above_high (set words (low_word 0 k) first) 0 k second less (in_front g) few ∙ sequence_above_low words 0 k first less (in_front g) few)
 
 -- a group's two data words
-module _ (words owners : List ℕ) (g a b i j : ℕ) (few : g < 64) (at_i : i ≡ data_word (in_front g) 0) (at_j : j ≡ data_word (in_front g) 1) (room : 320 ≤ length words) where
+module _ (words owners : List ℕ) (g a b i j : ℕ) (few : g < 64) (at_i : i ≡ data_word (in_front g) 0) (at_j : j ≡ data_word (in_front g) 1) (room : block_words ≤ length words) where
   is : set (set words i a) j b ≡ set (set words (sequence_word (in_front g) + 1) a) (sequence_word (in_front g) + 2) b
   is = let x : i ≡ sequence_word (in_front g) + 1 = omega arith in let y : j ≡ sequence_word (in_front g) + 2 = omega arith in λ l. set (set words (x l) a) (y l) b
 
@@ -106,7 +105,7 @@ module _ (words owners : List ℕ) (g a b i j : ℕ) (few : g < 64) (at_i : i �
       second_is = ap (λ (k : ℕ). get_or (set (set words i a) j b) k 0) (sym at_j) ∙ (get_or-set_same (set words i a) j b 0 (let e = length-set words i a in omega arith)
           ∙ (b_is ∙ ap (λ (ws : List ℕ). get_or ws 1 0) packed_is))
 
-      two_words : (n : ℕ) → n < 2 → datum (set (set words i a) j b) (in_front g) n ≡ get_or (words_of content) n 0
+      two_words : (n : ℕ) → n < data_words → datum (set (set words i a) j b) (in_front g) n ≡ get_or (words_of content) n 0
       two_words zero less = first_is
       two_words (suc zero) less = second_is
       two_words (suc (suc n)) less = absurd (omega arith)
@@ -135,21 +134,18 @@ pub length_zeros : (n : ℕ) → length (zeros n) ≡ n
 length_zeros zero = refl
 length_zeros (suc n) = let e = length_zeros n in omega arith
 
-pub zero_owners : (words owners : List ℕ) → words ≡ zeros 320 → owners ≡ zeros 64 → AreOwners owners words 0
+pub zero_owners : (words owners : List ℕ) → words ≡ zeros block_words → owners ≡ zeros 64 → AreOwners owners words 0
 zero_owners words owners ws os = record {
   all = ap length os ∙ length_zeros 64;
-  wide = let e : length words ≡ 320 = ap length ws ∙ length_zeros 320 in omega arith;
-  tags = λ k less. ap (λ (l : List ℕ). get_or l k 0) os ∙ (all_zero 64 k ∙ sym (ap tag (ap (λ (l : List ℕ). high l 0 k) ws ∙ all_zero 320 (high_word 0 k))));
+  wide = let e : length words ≡ block_words = ap length ws ∙ length_zeros block_words in omega arith;
+  tags = λ k less. ap (λ (l : List ℕ). get_or l k 0) os ∙ (all_zero 64 k ∙ sym (ap tag (ap (λ (l : List ℕ). high l 0 k) ws ∙ all_zero block_words (high_word 0 k))));
   known = λ k less. let e : get_or owners k 0 ≡ 0 = ap (λ (l : List ℕ). get_or l k 0) os ∙ all_zero 64 k in omega arith;
 }
 
-pub zero_bare : (words owners : List ℕ) (g : ℕ) → words ≡ zeros 320 → owners ≡ zeros 64 → IsBare words owners (in_front g)
+pub zero_bare : (words owners : List ℕ) (g : ℕ) → words ≡ zeros block_words → owners ≡ zeros 64 → IsBare words owners (in_front g)
 zero_bare words owners g ws os = record {
-  version = ap (λ (l : List ℕ). sequence l (in_front g)) ws ∙ all_zero 320 (sequence_word (in_front g));
-  rows = record {
-    into = λ k less is. let z : tag (high words 0 k) ≡ 0 = ap tag (ap (λ (l : List ℕ). high l 0 k) ws ∙ all_zero 320 (high_word 0 k)) in absurd (omega arith);
-    onto = λ row has. absurd (some-ne-none row (sym has.1));
-  };
+  version = ap (λ (l : List ℕ). sequence l (in_front g)) ws ∙ all_zero block_words (sequence_word (in_front g));
+  rows = no_rows owners words (in_front g) (zero_owners words owners ws os) (λ k less e. let z : get_or owners k 0 ≡ 0 = ap (λ (l : List ℕ). get_or l k 0) os ∙ all_zero 64 k in omega arith);
   counted = none_left owners words 0 (g + 1) (zero_owners words owners ws os) (λ k less e. let z : get_or owners k 0 ≡ 0 = ap (λ (l : List ℕ). get_or l k 0) os ∙ all_zero 64 k in omega arith);
 }
 
@@ -157,9 +153,9 @@ pub zero_free : (owners : List ℕ) → owners ≡ zeros 64 → places_of 0 owne
 zero_free owners os = ap (places_of 0) os ∙ (sum_by-replicate (λ (x : ℕ). cond (eqb x 0) 1 0) 64 0 ∙ refl)
 
 -- the groups of an image in front of another list
-module _ (words owners bw bo : List ℕ) (block : ℕ) (wide : length words ≡ 320 * block) (long : length bw ≡ 320) where
-  after : (i j : ℕ) → j ≡ 320 * block + i → get_or (words ++ bw) j 0 ≡ get_or bw i 0
-  after i j e = get_or-append_right words bw (320 * block) j 0 wide (omega arith) ∙ ap (λ (k : ℕ). get_or bw k 0) (let f : j - 320 * block ≡ i = omega arith in f)
+module _ (words owners bw bo : List ℕ) (block : ℕ) (wide : length words ≡ block_words * block) (long : length bw ≡ block_words) where
+  after : (i j : ℕ) → j ≡ block_words * block + i → get_or (words ++ bw) j 0 ≡ get_or bw i 0
+  after i j e = get_or-append_right words bw (block_words * block) j 0 wide (omega arith) ∙ ap (λ (k : ℕ). get_or bw k 0) (let f : j - block_words * block ≡ i = omega arith in f)
 
   -- the last block
   pub last_owners : AreOwners bo bw 0 → AreOwners bo (words ++ bw) block
@@ -179,7 +175,7 @@ module _ (words owners bw bo : List ℕ) (block : ℕ) (wide : length words ≡ 
   }
 
   -- an earlier block
-  before : (i : ℕ) → i < 320 * block → get_or (words ++ bw) i 0 ≡ get_or words i 0
+  before : (i : ℕ) → i < block_words * block → get_or (words ++ bw) i 0 ≡ get_or words i 0
   before i less = get_or-append words bw 0 i (omega arith)
 
   pub first_owners : (b : ℕ) → b < block → AreOwners owners words b → AreOwners owners (words ++ bw) b
@@ -198,7 +194,7 @@ module _ (words owners bw bo : List ℕ) (block : ℕ) (wide : length words ≡ 
   }
 
 -- one more block is laid
-pub one_more_block : (words : List ℕ) (owners : List (List ℕ)) (bw bo : List ℕ) (images : List Image) (image : Image) → AreLaid words owners images → length bw ≡ 320 → IsBlockLaid bw bo image → AreLaid (words ++ bw) (owners ++ bo ∷ []) (images ++ image ∷ [])
+pub one_more_block : (words : List ℕ) (owners : List (List ℕ)) (bw bo : List ℕ) (images : List Image) (image : Image) → AreLaid words owners images → length bw ≡ block_words → IsBlockLaid bw bo image → AreLaid (words ++ bw) (owners ++ bo ∷ []) (images ++ image ∷ [])
 one_more_block words owners bw bo images image t long l = let wide = t.wide in let one = t.one_each in
     let count = length-append images (image ∷ []) in let n = length-append owners (bo ∷ []) in let m = length-append words bw in
     let last_owner : get_or (owners ++ bo ∷ []) (length images) [] ≡ bo = ap (λ (k : ℕ). get_or (owners ++ bo ∷ []) k []) (sym one) ∙ get_or-append_seam owners bo [] [] in record {

@@ -7,7 +7,6 @@ pub mod Meeting
 pub mod Placing
 pub mod Finding
 pub mod Looking
-pub mod Below
 pub mod Rewriting
 pub mod Answering
 pub mod Room

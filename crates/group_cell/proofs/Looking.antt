@@ -7,10 +7,10 @@ use Rattle.group_cell.specs.declared.view.View.{View}
 use Rattle.group_cell.specs.declared.view.View.TheVariants.{Reader}
 use Rattle.group_cell.specs.Rule.{HasLoad}
 use Rattle.group_cell.specs.Plays.{reader_view, IsReader, load, loaded_in, loaded}
-use Rattle.group_cell.specs.Seating.{Place, look_in, last_look, the_look, loads_of, IsSamePlace, IsLooking, GoesOn}
+use Rattle.group_cell.specs.Seating.{CellSeat, look_in, last_look, the_look, loads_of, IsSameSeat, IsLooking, GoesOn}
 use Rattle.group_cell.proofs.Finding.{loads_more, loads_last}
 
-module _ (s t : Place) (x : Load) (same : IsSamePlace s t) (e : t.me ≡ (Reader (loaded x (reader_view s.me.0)), s.me.1)) (l : IsLooking s) where
+module _ (s t : CellSeat) (x : Load) (same : IsSameSeat s t) (e : t.me ≡ (Reader (loaded x (reader_view s.me.0)), s.me.1)) (l : IsLooking s) where
   last_is : last_look t ≡ Some (record (the_look s) { loads = (the_look s).loads ++ x ∷ [] })
   last_is = ap (λ (m : Me ℕ View). (reader_view m.0).last) e ∙ ap (loaded_in x) l.last
 
@@ -40,10 +40,10 @@ module _ (s t : Place) (x : Load) (same : IsSamePlace s t) (e : t.me ≡ (Reader
   pub has_it : HasLoad (loads_of t) x
   has_it = subst (λ (ls : List Load). HasLoad ls x) (sym loads_are) (loads_last (loads_of s) x)
 
-pub goes_on-self : (s : Place) → GoesOn s s
+pub goes_on-self : (s : CellSeat) → GoesOn s s
 goes_on-self s = record { same = (refl, refl); view = refl; at = refl; first = refl; loads = λ x has. has; bare = refl }
 
-pub goes_on-trans : (r s t : Place) → GoesOn r s → GoesOn s t → GoesOn r t
+pub goes_on-trans : (r s t : CellSeat) → GoesOn r s → GoesOn s t → GoesOn r t
 goes_on-trans r s t a b = record {
   same = (b.same.0 ∙ a.same.0, b.same.1 ∙ a.same.1);
   view = b.view ∙ a.view;

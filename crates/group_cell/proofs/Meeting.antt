@@ -3,10 +3,11 @@ use Rattle.std.proofs.Common.{◌≡◌, ℕ, zero, suc, ◌<◌, ◌≤◌, ◌
 use mathlib.Core.Option.{some, some-injective, some-ne-none}
 use lib.ListN.{get_elem?}
 use Rattle.std.proofs.lemmas.Bool.Decides.{nat_tests}
+use mathlib.Core.List.{IsPrefix}
+use Rattle.flow_types.proofs.Prefixes.{prefix_self, prefix_trans, prefix_shorter, prefix_whole}
 use Rattle.atomic_table.specs.Table.{State, Splits, Joins}
 use Rattle.atomic_table.proofs.Lists.{at_set, set_else, set_again, at_snoc, at_longer}
 use Rattle.group_search.specs.declared.published.Publication.{Publication}
-use Rattle.group_search.specs.Published.{Extends}
 use Rattle.group_cell.specs.declared.view.WriterView.{WriterView}
 use Rattle.group_cell.specs.declared.view.ReaderView.{ReaderView}
 use Rattle.group_cell.specs.declared.view.View.{View}
@@ -14,7 +15,6 @@ use Rattle.group_cell.specs.declared.view.View.TheVariants.{Writer, Reader, Spen
 use Rattle.group_cell.specs.Opening.{Opened}
 use Rattle.group_cell.specs.Rule.{AllIn, Stands, Sees, AgreesWith, Kept}
 use Rattle.group_cell.specs.Plays.{writer_view, reader_view, IsWriter, IsReader, new_reader, longer, kept_by, given_by, has_heard, has_met, met_by}
-use Rattle.group_cell.proofs.Versions.{extends-self, extends-trans, extends-longer, extends-whole}
 use Rattle.group_cell.proofs.Writing.{Moves, stays_put}
 use Rattle.group_cell.proofs.Keeps.{at_changed, reader-ne-writer, others_know}
 
@@ -26,15 +26,15 @@ longer_is P a b f g = go (ltb (length a) (length b)) refl
     go false e = g (grind (arith, nat_tests))
 
 -- the longer of two beginnings begins with each
-longer_left : (p a b : List Publication) → Extends a p → Extends b p → Extends a (longer a b)
-longer_left p a b s t = longer_is (λ l. Extends a l) a b (λ lt. extends-longer p a b s t (omega arith)) (λ _. extends-self a)
+longer_left : (p a b : List Publication) → IsPrefix a p → IsPrefix b p → IsPrefix a (longer a b)
+longer_left p a b s t = longer_is (λ l. IsPrefix a l) a b (λ lt. prefix_shorter a b p s t (omega arith)) (λ _. prefix_self a)
 
-longer_right : (p a b : List Publication) → Extends a p → Extends b p → Extends b (longer a b)
-longer_right p a b s t = longer_is (λ l. Extends b l) a b (λ _. extends-self b) (λ le. extends-longer p b a t s le)
+longer_right : (p a b : List Publication) → IsPrefix a p → IsPrefix b p → IsPrefix b (longer a b)
+longer_right p a b s t = longer_is (λ l. IsPrefix b l) a b (λ _. prefix_self b) (λ le. prefix_shorter b a p t s le)
 
 -- the longer of a list and a beginning of it is the list
-pub longer_all : (p a : List Publication) → Extends a p → longer a p ≡ p
-longer_all p a s = longer_is (λ l. l ≡ p) a p (λ _. refl) (λ le. extends-whole p a s le)
+pub longer_all : (p a : List Publication) → IsPrefix a p → longer a p ≡ p
+longer_all p a s = longer_is (λ l. l ≡ p) a p (λ _. refl) (λ le. prefix_whole a p s le)
 
 all_append : (P : List Publication → Type 0) (xs ys : List (List Publication)) → AllIn P xs → AllIn P ys → AllIn P (xs ++ ys)
 all_append P [] ys f g k l e = g k l e
@@ -48,28 +48,29 @@ all_cons P x xs p f (suc k) l e = f k l e
 sees_met : (w : WriterView) (a b : ReaderView) → Sees w a → Sees w b → Sees w (has_met b a)
 sees_met w a b s t =
     let top : List Publication = longer a.seen b.seen in
-    let left : Extends a.seen top = longer_left w.published a.seen b.seen s.seen t.seen in let right : Extends b.seen top = longer_right w.published a.seen b.seen s.seen t.seen in
-    let Begins : List Publication → Type 0 = λ l. Extends l top in
-    let all = all_append Begins a.heard b.heard (λ k o e. extends-trans o a.seen top (s.heard k o e) left) (λ k o e. extends-trans o b.seen top (t.heard k o e) right) in record {
+    let left : IsPrefix a.seen top = longer_left w.published a.seen b.seen s.seen t.seen in let right : IsPrefix b.seen top = longer_right w.published a.seen b.seen s.seen t.seen in
+    let Begins : List Publication → Type 0 = λ l. IsPrefix l top in
+    let all = all_append Begins a.heard b.heard (λ k o e. prefix_trans o a.seen top (s.heard k o e) left) (λ k o e. prefix_trans o b.seen top (t.heard k o e) right) in record {
       opening = s.opening;
-      seen = longer_is (λ l. Extends l w.published) a.seen b.seen (λ _. t.seen) (λ _. s.seen);
+      seen = longer_is (λ l. IsPrefix l w.published) a.seen b.seen (λ _. t.seen) (λ _. s.seen);
       heard = all_cons Begins a.seen (b.seen ∷ (a.heard ++ b.heard)) left (all_cons Begins b.seen (a.heard ++ b.heard) right all);
       look = tt;
     }
 
-sees_new : (w : WriterView) (opening : Opened) (seen : List Publication) → opening ≡ w.opening → Extends seen w.published → Sees w (new_reader opening seen)
+sees_new : (w : WriterView) (opening : Opened) (seen : List Publication) → opening ≡ w.opening → IsPrefix seen w.published → Sees w (new_reader opening seen)
 sees_new w opening seen e s = record { opening = e; seen = s; heard = λ k l none. absurd (some-ne-none l (sym none)); look = tt }
 
 forgets : (w : WriterView) (r : ReaderView) → Sees w r → Sees w (record r { last = None })
 forgets w r s = record { opening = s.opening; seen = s.seen; heard = s.heard; look = tt }
 
-hears : (w : WriterView) (seen : List Publication) → Stands w → Extends seen w.published → Stands (has_heard seen w)
+hears : (w : WriterView) (seen : List Publication) → Stands w → IsPrefix seen w.published → Stands (has_heard seen w)
 hears w seen s p = record {
   wide = s.wide;
   few = s.few;
   rest = λ at inside rests. let r = s.rest at inside rests in record { version = r.version; holds = r.holds };
+  places = s.places;
   in_writing = s.in_writing;
-  heard = all_cons (λ l. Extends l w.published) seen w.heard p s.heard;
+  heard = all_cons (λ l. IsPrefix l w.published) seen w.heard p s.heard;
 }
 
 hears_moves : (w : WriterView) (seen : List Publication) → Moves w (has_heard seen w)
@@ -139,7 +140,7 @@ module _ {S : Type 0} (key : Opened) where
       split : let w = writer_view v in Splits Rule id (Writer w) (kept_by (Writer w)) (given_by (Writer w))
       split s k at = let w = writer_view v in let known : (id ≡ k.writer) × (w ≡ k.view) = k.each_seat id (Writer w) at in
           subst (λ (vs : List View). Rule (with_views s (vs ++ Reader (new_reader w.opening w.published) ∷ []))) (sym (set_again s.views id (Writer w) at))
-          (arrives s k (new_reader w.opening w.published) (sees_new k.view w.opening w.published (ap (λ u. u.opening) known.1) (subst (λ (u : WriterView). Extends w.published u.published) known.1 (extends-self w.published))))
+          (arrives s k (new_reader w.opening w.published) (sees_new k.view w.opening w.published (ap (λ u. u.opening) known.1) (subst (λ (u : WriterView). IsPrefix w.published u.published) known.1 (prefix_self w.published))))
 
   pub joins_to_writer : (id : ℕ) (v : View) (other : ℕ) (u : View) → IsWriter v → IsReader u → Joins Rule id v other u (met_by v u) Spent
   joins_to_writer id v other u is is' = subst (λ (x : View × View). Joins Rule id x.0 other x.1 (met_by x.0 x.1) Spent) (λ i. (sym is i, sym is' i)) join
@@ -148,7 +149,7 @@ module _ {S : Type 0} (key : Opened) where
       join s k at apart there = let w = writer_view v in let r = reader_view u in
           let was : get_elem? s.views other ≡ some (Reader r) = sym (set_else s.views id other (Writer (has_heard r.seen w)) apart) ∙ there in
           let sees : Sees k.view r = k.each_seat other (Reader r) was in let known : (id ≡ k.writer) × (w ≡ k.view) = k.each_seat id (Writer w) at in
-          let begins : Extends r.seen w.published = subst (λ (x : WriterView). Extends r.seen x.published) (sym known.1) sees.seen in
+          let begins : IsPrefix r.seen w.published = subst (λ (x : WriterView). IsPrefix r.seen x.published) (sym known.1) sees.seen in
           let k' = rewrites s k id w (has_heard r.seen w) at (hears_moves w r.seen) (hears w r.seen (subst Stands (sym known.1) k.stands) begins) refl in
           changes (with_views s (set s.views id (Writer (has_heard r.seen w)))) k' other r Spent there tt
 

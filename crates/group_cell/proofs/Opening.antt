@@ -17,7 +17,8 @@ use Rattle.group_cell.specs.declared.view.View.TheVariants.{Writer}
 use Rattle.group_cell.specs.declared.view.WriterView.{WriterView}
 use Rattle.group_cell.specs.Opening.{Opened}
 use Rattle.group_cell.specs.Laying.{AreLaid}
-use Rattle.group_cell.specs.Rule.{HasNodes, IsIn, Stands, AgreesWith, Kept}
+use Rattle.group_search.specs.Records.{HasNodes}
+use Rattle.group_cell.specs.Rule.{IsIn, Stands, AgreesWith, Kept}
 use Rattle.group_cell.specs.Plays.{first_writer, first_view}
 use Rattle.group_cell.specs.Seating.{Tallies}
 
@@ -37,6 +38,7 @@ first_stands o owners t bits in_cluster = record {
   wide = t.wide;
   few = omega arith;
   rest = λ at inside _. let l = t.groups at inside.block inside.group in record { version = l.version; holds = l.holds o.size.nodes (opening_is (HasBits (value_bits o.size.nodes)) o owners t bits at inside) (opening_is (HasNodes o.size.nodes) o owners t in_cluster at inside) };
+  places = λ block k in_table less. let owned = t.owners_of block in_table in let is = owned.tags k less in let known = owned.known k less in omega arith;
   in_writing = tt;
   heard = λ k l none. absurd (some-ne-none l (sym none));
 }

@@ -1,15 +1,16 @@
 -- Rows that are put into places, and what the writer's seat keeps of them.
-use Rattle.std.proofs.Common.{◌≡◌, ℕ, suc, ◌+◌, ◌*◌, ◌<◌, ◌≤◌, ◌≢◌, ⊎_elim, Bool, cond, eqb, eq-eqb, ne_eqb, List, [], ◌∷◌, ◌++◌, length, get_or, set, refl, sym, ap, ◌∙◌, subst, arith, length-set, get_or-set_other, get_or-set_same}
+use Rattle.std.proofs.Common.{◌≡◌, ℕ, zero, suc, ◌+◌, ◌*◌, ◌<◌, ◌≤◌, ◌≢◌, ◌⊎◌, inl, inr, ⊎_elim, Bool, cond, eqb, eq-eqb, ne_eqb, List, [], ◌∷◌, ◌++◌, length, get_or, set, refl, sym, ap, ◌∙◌, subst, arith, length-set, get_or-set_other, get_or-set_same}
 use Rattle.std.proofs.lemmas.List.Sums.{sum_by-set, sum_by-cons}
 use mathlib.Core.Logic.{dite}
 use native.Mathlib.Decide.{ℕ_discrete}
-use mathlib.Core.Option.{some-ne-none}
-use Rattle.atomic_table.proofs.Lists.{at_snoc, at_longer, at_last}
+use mathlib.Core.Option.{some, some-injective, some-ne-none}
+use lib.ListN.{get_elem?}
+use Rattle.atomic_table.proofs.Lists.{at_longer, at_last}
 use Rattle.group_search.specs.declared.rows.Row.{Row}
 use Rattle.group_search.specs.Home.{Home}
 use Rattle.group_search.specs.RowWords.{SpellsRow}
-use Rattle.group_cell.specs.Layout.{low_word, high_word, low, high, place_words, tag}
-use Rattle.group_cell.specs.Rule.{HasRow, RowsStand}
+use Rattle.group_cell.specs.Layout.{block_words, low_word, high_word, low, high, place_words, tag}
+use Rattle.group_cell.specs.Rule.{IsRow, RowsStand}
 use Rattle.group_cell.specs.Seating.{places_of, AreOwners}
 use Rattle.group_cell.proofs.Groups.{tag_of_row}
 
@@ -73,13 +74,28 @@ owners_on owners words words' block same kept t = let wide = t.wide in record { 
 
 -- no place has the group's tag
 pub no_rows : (owners words : List ℕ) (at : Home) → AreOwners owners words at.block → ((k : ℕ) → k < 64 → get_or owners k 0 ≢ at.group + 1) → RowsStand words at []
-no_rows owners words at t none = record { into = λ k less is. absurd (none k less (t.tags k less ∙ is)); onto = λ row h. absurd (some-ne-none row (sym h.1)) }
+no_rows owners words at t none = record {
+  place_of = λ i. 0;
+  inside = λ i row is. absurd (some-ne-none row (sym is));
+  holds = λ i row is. absurd (some-ne-none row (sym is));
+  apart = λ i j x y is _ _. absurd (some-ne-none x (sym is));
+  tagged = λ k less is. absurd (none k less (t.tags k less ∙ is));
+}
 
-has_more : (rows : List Row) (x y : Row) → HasRow rows y → HasRow (rows ++ x ∷ []) y
-has_more rows x y h = (h.0, at_longer rows (x ∷ []) h.0 y h.1)
+-- a row of the list with one more is one of those before, or the last
+row_of_more : (rows : List Row) (last x : Row) (i : ℕ) → IsRow (rows ++ last ∷ []) i x → IsRow rows i x ⊎ ((i ≡ length rows) × (last ≡ x))
+row_of_more [] last x zero is = inr (refl, some-injective last x is)
+row_of_more [] last x (suc i) is = absurd (some-ne-none x (sym is))
+row_of_more (row ∷ rows) last x zero is = inl is
+row_of_more (row ∷ rows) last x (suc i) is = ⊎_elim (λ (was : IsRow rows i x). inl was) (λ (now : (i ≡ length rows) × (last ≡ x)). inr ((let e = now.0 in omega arith), now.1)) (row_of_more rows last x i is)
+
+row_before : (rows : List Row) (x : Row) (i : ℕ) → IsRow rows i x → i ≢ length rows
+row_before [] x i is = absurd (some-ne-none x (sym is))
+row_before (row ∷ rows) x zero is = λ e. omega arith
+row_before (row ∷ rows) x (suc i) is = λ e. row_before rows x i is (omega arith)
 
 -- one more row, in a free place
-module _ (words : List ℕ) (at : Home) (k first second : ℕ) (row : Row) (less : k < 64) (wide : 320 * at.block + 320 ≤ length words) (free : tag (high words at.block k) ≡ 0)
+module _ (words : List ℕ) (at : Home) (k first second : ℕ) (row : Row) (less : k < 64) (wide : block_words * at.block + block_words ≤ length words) (free : tag (high words at.block k) ≡ 0)
     (spelled : SpellsRow at.group row (first ∷ second ∷ [])) where
   abbrev once : List ℕ
   once = set words (low_word at.block k) first
@@ -105,19 +121,59 @@ module _ (words : List ℕ) (at : Home) (k first second : ℕ) (row : Row) (less
   place_else : (i : ℕ) → i ≢ k → place_words after at.block i ≡ place_words words at.block i
   place_else i other = λ j. low_else i other j ∷ high_else i other j ∷ []
 
-  pub placed : (rows : List Row) → RowsStand words at rows → RowsStand after at (rows ++ row ∷ [])
-  placed rows s = record {
-    into = λ i inside is. dite (ℕ_discrete i k)
-        (λ e. (row, (length rows, at_last rows row (length rows) refl), subst (SpellsRow at.group row) (sym (ap (place_words after at.block) e ∙ place_here)) spelled))
-        (λ other. let t = s.into i inside (ap tag (sym (high_else i other)) ∙ is) in (t.0, has_more rows row t.0 t.1, subst (SpellsRow at.group t.0) (sym (place_else i other)) t.2));
-    onto = λ y h. ⊎_elim
-        (λ was. let t = s.onto y (h.0, was) in
-        let tagged = tag_of_row at.group y (low words at.block t.0) (high words at.block t.0) t.2 in
-        let other : t.0 ≢ k = (λ e. let z : tag (high words at.block t.0) ≡ 0 = ap (λ (i : ℕ). tag (high words at.block i)) e ∙ free in omega arith) in
-        (t.0, t.1, subst (SpellsRow at.group y) (sym (place_else t.0 other)) t.2))
-        (λ (same : row ≡ y). (k, less, subst (SpellsRow at.group y) (sym place_here) (subst (λ (x : Row). SpellsRow at.group x (first ∷ second ∷ [])) same spelled)))
-        (at_snoc rows row y h.0 h.1);
-  }
+  module _ (rows : List Row) (s : RowsStand words at rows) where
+    abbrev place_now : (i : ℕ) → ℕ
+    place_now i = cond (eqb i (length rows)) k (s.place_of i)
+
+    place_last : (i : ℕ) → i ≡ length rows → place_now i ≡ k
+    place_last i e = ap (λ (b : Bool). cond b k (s.place_of i)) (eq-eqb i (length rows) e)
+
+    place_kept : (i : ℕ) (x : Row) → IsRow rows i x → place_now i ≡ s.place_of i
+    place_kept i x is = ap (λ (b : Bool). cond b k (s.place_of i)) (ne_eqb i (length rows) (row_before rows x i is))
+
+    -- the free place is no row's
+    not_here : (i : ℕ) (x : Row) → IsRow rows i x → s.place_of i ≢ k
+    not_here i x is e =
+        let tagged = tag_of_row at.group x (low words at.block (s.place_of i)) (high words at.block (s.place_of i)) (s.holds i x is) in
+        let none : tag (high words at.block (s.place_of i)) ≡ 0 = ap (λ (j : ℕ). tag (high words at.block j)) e ∙ free in omega arith
+
+    still_inside : (i : ℕ) (x : Row) → IsRow (rows ++ row ∷ []) i x → place_now i < 64
+    still_inside i x is = ⊎_elim
+        (λ (was : IsRow rows i x). subst (λ (n : ℕ). n < 64) (sym (place_kept i x was)) (s.inside i x was))
+        (λ (last : (i ≡ length rows) × (row ≡ x)). subst (λ (n : ℕ). n < 64) (sym (place_last i last.0)) less)
+        (row_of_more rows row x i is)
+
+    still_holds : (i : ℕ) (x : Row) → IsRow (rows ++ row ∷ []) i x → SpellsRow at.group x (place_words after at.block (place_now i))
+    still_holds i x is = ⊎_elim
+        (λ (was : IsRow rows i x). subst (λ (n : ℕ). SpellsRow at.group x (place_words after at.block n)) (sym (place_kept i x was))
+        (subst (SpellsRow at.group x) (sym (place_else (s.place_of i) (not_here i x was))) (s.holds i x was)))
+        (λ (last : (i ≡ length rows) × (row ≡ x)). subst (λ (n : ℕ). SpellsRow at.group x (place_words after at.block n)) (sym (place_last i last.0))
+        (subst (SpellsRow at.group x) (sym place_here) (subst (λ (y : Row). SpellsRow at.group y (first ∷ second ∷ [])) last.1 spelled)))
+        (row_of_more rows row x i is)
+
+    still_apart : (i j : ℕ) (x y : Row) → IsRow (rows ++ row ∷ []) i x → IsRow (rows ++ row ∷ []) j y → place_now i ≡ place_now j → i ≡ j
+    still_apart i j x y is_x is_y same = ⊎_elim
+        (λ (a : IsRow rows i x). ⊎_elim
+        (λ (b : IsRow rows j y). s.apart i j x y a b (sym (place_kept i x a) ∙ (same ∙ place_kept j y b)))
+        (λ (b : (j ≡ length rows) × (row ≡ y)). absurd (not_here i x a (sym (place_kept i x a) ∙ (same ∙ place_last j b.0))))
+        (row_of_more rows row y j is_y))
+        (λ (a : (i ≡ length rows) × (row ≡ x)). ⊎_elim
+        (λ (b : IsRow rows j y). absurd (not_here j y b (sym (place_kept j y b) ∙ (sym same ∙ place_last i a.0))))
+        (λ (b : (j ≡ length rows) × (row ≡ y)). a.0 ∙ sym b.0)
+        (row_of_more rows row y j is_y))
+        (row_of_more rows row x i is_x)
+
+    pub placed : RowsStand after at (rows ++ row ∷ [])
+    placed = record {
+      place_of = place_now;
+      inside = still_inside;
+      holds = still_holds;
+      apart = still_apart;
+      tagged = λ n inside is. dite (ℕ_discrete n k)
+          (λ e. (length rows, row, at_last rows row (length rows) refl, place_last (length rows) refl ∙ sym e))
+          (λ other. let t = s.tagged n inside (ap tag (sym (high_else n other)) ∙ is) in
+          (t.0, t.1, at_longer rows (row ∷ []) t.0 t.1 t.2, place_kept t.0 t.1 t.2 ∙ t.3));
+    }
 
 -- the two words that spell a row, by their places in the list
 pub spelled_items : (g : ℕ) (row : Row) (words : List ℕ) → SpellsRow g row words → SpellsRow g row (get_or words 0 0 ∷ get_or words 1 0 ∷ [])

@@ -12,10 +12,11 @@ use Rattle.group_search.specs.Words.{PacksTo, packed_of, words_of}
 use Rattle.group_cell.specs.declared.view.View.{View}
 use Rattle.group_cell.specs.declared.view.WriterView.{WriterView}
 use Rattle.group_cell.specs.Opening.{Opened}
-use Rattle.group_cell.specs.Layout.{low_word, high_word, sequence_word, low, high, sequence, datum}
-use Rattle.group_cell.specs.Rule.{HasNodes, Holds, IsIn, IsSoundRecord, RowsStand, latest, rows_placed}
+use Rattle.group_cell.specs.Layout.{block_words, data_words, low_word, high_word, sequence_word, low, high, sequence, datum}
+use Rattle.group_search.specs.Records.{HasNodes}
+use Rattle.group_cell.specs.Rule.{Holds, IsIn, IsSoundRecord, RowsStand, latest, rows_placed}
 use Rattle.group_cell.specs.Plays.{writer_view, IsWriter, begun, ended, publication}
-use Rattle.group_cell.specs.Seating.{Place, AreOwners, IsInWriting, IsWriterSeat, Rewrites, Tallies, Writes, WritesData, places_of, words_of_seat}
+use Rattle.group_cell.specs.Seating.{CellSeat, AreOwners, IsInWriting, IsWriterSeat, Rewrites, Tallies, Writes, WritesData, places_of, words_of_seat}
 use Rattle.std.proofs.lemmas.List.{get_or_default}
 use Rattle.group_cell.proofs.Versions.{one_home, latest_here, latest_else}
 use Rattle.group_cell.proofs.Groups.{rows_at}
@@ -23,9 +24,9 @@ use Rattle.group_cell.proofs.Placing.{owners_on}
 
 -- the word is none of the block's
 abbrev pub IsFar : (block word : ℕ) → Type 0
-IsFar block word = (word < 320 * block) ⊎ (320 * block + 320 ≤ word)
+IsFar block word = (word < block_words * block) ⊎ (block_words * block + block_words ≤ word)
 
-module _ (s0 s1 s2 s3 s4 : Place) (at : Home) (few : at.group < 64) (odd : ℕ) (b : Writes s0 s1 (begun at odd (writer_view s0.me.0)))
+module _ (s0 s1 s2 s3 s4 : CellSeat) (at : Home) (few : at.group < 64) (odd : ℕ) (b : Writes s0 s1 (begun at odd (writer_view s0.me.0)))
     (v : Rewrites at.block s1 s2) (l : Rewrites at.block s2 s3) (d : WritesData at s3 s4) where
   begun_words : words_of_seat s1 ≡ set (words_of_seat s0) (sequence_word at) odd
   begun_words = ap (λ (m : Me ℕ View). (writer_view m.0).words) b.me
@@ -71,14 +72,14 @@ module _ (s0 s1 s2 s3 s4 : Place) (at : Home) (few : at.group < 64) (odd : ℕ) 
 
   pub far_now : (i : ℕ) → IsFar at.block i → get_or (words_of_seat s4) i 0 ≡ get_or (words_of_seat s0) i 0
   far_now i far =
-      d.beside i (⊎_elim (λ (less : i < 320 * at.block). inl (omega arith)) (λ (le : 320 * at.block + 320 ≤ i). inr (omega arith)) far)
-      ∙ (l.beside i (⊎_elim (λ (less : i < 320 * at.block). inl less) (λ (le : 320 * at.block + 320 ≤ i). inr (omega arith)) far)
-      ∙ (v.beside i (⊎_elim (λ (less : i < 320 * at.block). inl less) (λ (le : 320 * at.block + 320 ≤ i). inr (omega arith)) far)
-      ∙ begun_else i (⊎_elim (λ (less : i < 320 * at.block). λ (e : i ≡ sequence_word at). omega arith) (λ (le : 320 * at.block + 320 ≤ i). λ (e : i ≡ sequence_word at). omega arith) far)))
+      d.beside i (⊎_elim (λ (less : i < block_words * at.block). inl (omega arith)) (λ (le : block_words * at.block + block_words ≤ i). inr (omega arith)) far)
+      ∙ (l.beside i (⊎_elim (λ (less : i < block_words * at.block). inl less) (λ (le : block_words * at.block + block_words ≤ i). inr (omega arith)) far)
+      ∙ (v.beside i (⊎_elim (λ (less : i < block_words * at.block). inl less) (λ (le : block_words * at.block + block_words ≤ i). inr (omega arith)) far)
+      ∙ begun_else i (⊎_elim (λ (less : i < block_words * at.block). λ (e : i ≡ sequence_word at). omega arith) (λ (le : block_words * at.block + block_words ≤ i). λ (e : i ≡ sequence_word at). omega arith) far)))
 
   -- the record stands before it is published
   pub holds_now : (nodes : ℕ) (content : GroupRecord) (words : List ℕ) → words ≡ words_of content → PacksTo (value_bits nodes) (packed_of content) words → IsSoundRecord content → HasNodes nodes content
-      → ((j : ℕ) → j < 2 → datum (words_of_seat s4) at j ≡ get_or words j 0) → RowsStand (words_of_seat s3) at (rows_placed content) → Holds nodes (words_of_seat s4) at content
+      → ((j : ℕ) → j < data_words → datum (words_of_seat s4) at j ≡ get_or words j 0) → RowsStand (words_of_seat s3) at (rows_placed content) → Holds nodes (words_of_seat s4) at content
   holds_now nodes content words is packs sound in_cluster data_words rows = record {
     data_words = λ j two. data_words j two ∙ ap (λ (ws : List ℕ). get_or ws j 0) is;
     packs = subst (PacksTo (value_bits nodes) (packed_of content)) is packs;
@@ -140,7 +141,7 @@ module _ (w w' : WriterView) (owners : List (List ℕ)) (at : Home) (content : G
   }
 
 -- what the writer's seat is and keeps after the last store
-module _ (s0 s1 s2 s3 s4 s5 : Place) (at : Home) (few : at.group < 64) (odd even : ℕ) (content : GroupRecord) (b : Writes s0 s1 (begun at odd (writer_view s0.me.0)))
+module _ (s0 s1 s2 s3 s4 s5 : CellSeat) (at : Home) (few : at.group < 64) (odd even : ℕ) (content : GroupRecord) (b : Writes s0 s1 (begun at odd (writer_view s0.me.0)))
     (v : Rewrites at.block s1 s2) (l : Rewrites at.block s2 s3) (d : WritesData at s3 s4) (e : Writes s4 s5 (ended at content even (writer_view s4.me.0))) where
   ended_words : words_of_seat s5 ≡ set (words_of_seat s4) (sequence_word at) even
   ended_words = ap (λ (m : Me ℕ View). (writer_view m.0).words) e.me
@@ -161,7 +162,7 @@ module _ (s0 s1 s2 s3 s4 s5 : Place) (at : Home) (few : at.group < 64) (odd even
       (ap (λ (m : Me ℕ View). (writer_view m.0).opening) e.me ∙ opening_now s0 s1 s2 s3 s4 at few odd b v l d)
       (ap (λ (m : Me ℕ View). (writer_view m.0).published) e.me ∙ ap (λ (ps : List Publication). ps ++ publication at content ∷ []) (published_now s0 s1 s2 s3 s4 at few odd b v l d))
       (ap length ended_words ∙ (length-set (words_of_seat s4) (sequence_word at) even ∙ wide_now s0 s1 s2 s3 s4 at few odd b v l d))
-      (λ i far. ended_else i (⊎_elim (λ (less : i < 320 * at.block). λ (x : i ≡ sequence_word at). omega arith) (λ (le : 320 * at.block + 320 ≤ i). λ (x : i ≡ sequence_word at). omega arith) far) ∙ far_now s0 s1 s2 s3 s4 at few odd b v l d i far)
+      (λ i far. ended_else i (⊎_elim (λ (less : i < block_words * at.block). λ (x : i ≡ sequence_word at). omega arith) (λ (le : block_words * at.block + block_words ≤ i). λ (x : i ≡ sequence_word at). omega arith) far) ∙ far_now s0 s1 s2 s3 s4 at few odd b v l d i far)
       (owners_on mine (words_of_seat s4) (words_of_seat s5) at.block (ap length ended_words ∙ length-set (words_of_seat s4) (sequence_word at) even) (λ k less. ended_else (high_word at.block k) (λ x. omega arith))
       (owners_on mine (words_of_seat s3) (words_of_seat s4) at.block d.wide (λ k less. high_now s0 s1 s2 s3 s4 at few odd b v l d k less) owned))
       counted others

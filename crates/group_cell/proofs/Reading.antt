@@ -3,6 +3,7 @@ use Rattle.std.proofs.Common.{◌≡◌, ℕ, ◌+◌, ◌*◌, ◌/◌, ◌^◌
 use mathlib.Core.Option.{some, some-ne-none}
 use lib.ListN.{get_elem?}
 use Rattle.std.proofs.lemmas.Option.{none-some}
+use Rattle.flow_types.proofs.Prefixes.{prefix_self, prefix_trans}
 use Rattle.atomic_table.proofs.Lists.{at_snoc}
 use Rattle.group_search.specs.Home.{Home}
 use Rattle.group_search.specs.Published.{count, record_at}
@@ -15,7 +16,7 @@ use Rattle.group_cell.specs.Opening.{Opened}
 use Rattle.group_cell.specs.Layout.{address, home_of, sequence}
 use Rattle.group_cell.specs.Rule.{IsEven, IsIn, IsAtRest, IsFresh, HasLoaded, Holds, nodes_of, latest, Stands, Looks, Sees}
 use Rattle.group_cell.specs.Plays.{begun_look, looking, load, loaded_in, loaded, ended_in, looked}
-use Rattle.group_cell.proofs.Versions.{same_home_or, count_within, record_at-kept, extends-self, extends-trans}
+use Rattle.group_cell.proofs.Versions.{same_home_or, count_within, record_at-kept}
 use Rattle.group_cell.proofs.Writing.{odd_now}
 
 -- a group is at rest, or it is the one in writing
@@ -46,8 +47,8 @@ module _ (w : WriterView) (r : ReaderView) (s : Stands w) (k : Sees w r) where
   pub starts : (at : Home) → IsIn w.opening at → Sees w (looking at (sequence w.words at) w.published r)
   starts at inside = record {
     opening = k.opening;
-    seen = extends-self w.published;
-    heard = λ i l there. extends-trans l r.seen w.published (k.heard i l there) k.seen;
+    seen = prefix_self w.published;
+    heard = λ i l there. prefix_trans l r.seen w.published (k.heard i l there) k.seen;
     look = record {
       inside = inside;
       counted = λ even. sym (s.rest at inside (even_rests w s at inside even)).version;

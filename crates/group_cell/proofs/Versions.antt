@@ -1,5 +1,6 @@
 -- Records of a group in a list that grows, and beginnings of lists.
-use Rattle.std.proofs.Common.{◌≡◌, ℕ, ◌+◌, ◌≤◌, ◌≢◌, ◌⊎◌, inl, inr, Bool, true, false, ◌&&◌, List, [], ◌∷◌, ◌++◌, length, get_or, if◌then◌else◌, eqb, eq-eqb, ne_eqb, refl, sym, ap, suc, ◌∙◌, arith, length-append, append_assoc, append-nil}
+use Rattle.std.proofs.Common.{◌≡◌, ℕ, ◌+◌, ◌≤◌, ◌≢◌, ◌⊎◌, inl, inr, Bool, true, false, ◌&&◌, List, [], ◌∷◌, ◌++◌, length, get_or, if◌then◌else◌, eqb, eq-eqb, ne_eqb, refl, sym, ap, suc, ◌∙◌, arith, length-append, append-nil}
+use mathlib.Core.List.{IsPrefix}
 use mathlib.Core.Logic.{dite}
 use native.Mathlib.Decide.{ℕ_discrete}
 use lib.ListN.{get_or-append}
@@ -8,7 +9,7 @@ use Rattle.group_search.specs.declared.published.Publication.{Publication}
 use Rattle.group_search.specs.declared.record.GroupRecord.{GroupRecord}
 use Rattle.group_search.specs.Home.{Home, is_home}
 use Rattle.group_search.specs.Image.{Image}
-use Rattle.group_search.specs.Published.{published_group, records_of, count, opening_record, record_at, Extends}
+use Rattle.group_search.specs.Published.{published_group, records_of, count, opening_record, record_at}
 
 -- two groups are the same or not
 pub one_home : (at other : Home) → at.block ≡ other.block → at.group ≡ other.group → at ≡ other
@@ -67,9 +68,9 @@ module _ (ps : List Publication) (p : Publication) (at : Home) where
   latest_else images n = let f : GroupRecord = opening_record images at in ap (λ (l : List GroupRecord). get_or (f ∷ l) (length l) f) (records_else n)
 
 -- a version that the beginning has is the same in the whole
-pub record_at-kept : (images : List Image) (short long : List Publication) (at : Home) (version : ℕ) → Extends short long → version ≤ count short at → record_at images long at version ≡ record_at images short at version
+pub record_at-kept : (images : List Image) (short long : List Publication) (at : Home) (version : ℕ) → IsPrefix short long → version ≤ count short at → record_at images long at version ≡ record_at images short at version
 record_at-kept images short long at version s le = let f : GroupRecord = opening_record images at in
-    let l : records_of long at ≡ records_of short at ++ records_of s.0 at = ap (λ (ps : List Publication). records_of ps at) s.1 ∙ records_of-append short s.0 at in
+    let l : records_of long at ≡ records_of short at ++ records_of s.0 at = ap (λ (ps : List Publication). records_of ps at) (sym s.1) ∙ records_of-append short s.0 at in
     ap (λ (l : List GroupRecord). get_or (f ∷ l) version f) l ∙ get_or-append (f ∷ records_of short at) (records_of s.0 at) f version (omega arith)
 
 one_more : (b : Bool) (x : GroupRecord) (xs : List GroupRecord) (n : ℕ) → length xs ≤ n → length (if b then x ∷ xs else xs) ≤ suc n
@@ -79,38 +80,3 @@ one_more false x xs n le = omega arith
 pub count_within : (ps : List Publication) (at : Home) → count ps at ≤ length ps
 count_within [] at = omega arith
 count_within (p ∷ ps) at = one_more (is_home (published_group p) at) p.content (records_of ps at) (length ps) (count_within ps at)
-
-pub extends-self : (ps : List Publication) → Extends ps ps
-extends-self ps = ([], sym (append-nil ps))
-
-pub extends-snoc : (ps : List Publication) (p : Publication) → Extends ps (ps ++ p ∷ [])
-extends-snoc ps p = (p ∷ [], refl)
-
-pub extends-trans : (a b c : List Publication) → Extends a b → Extends b c → Extends a c
-extends-trans a b c s t = (s.0 ++ t.0, t.1 ∙ (ap (λ (l : List Publication). l ++ t.0) s.1 ∙ append_assoc a s.0 t.0))
-
-abbrev head_or : Publication → List Publication → Publication
-head_or d [] = d
-head_or d (x ∷ xs) = x
-
-abbrev tail_of : List Publication → List Publication
-tail_of [] = []
-tail_of (x ∷ xs) = xs
-
-begins_with : (a b r s : List Publication) → a ++ r ≡ b ++ s → length a ≤ length b → Extends a b
-begins_with [] b r s e le = (b, refl)
-begins_with (x ∷ a) [] r s e le = absurd (omega arith)
-begins_with (x ∷ a) (y ∷ b) r s e le = let t = begins_with a b r s (ap tail_of e) (omega arith) in (t.0, λ i. ap (head_or x) (sym e) i ∷ t.1 i)
-
--- of two beginnings of one list the longer begins with the shorter
-pub extends-longer : (p a b : List Publication) → Extends a p → Extends b p → length a ≤ length b → Extends a b
-extends-longer p a b s t le = begins_with a b s.0 t.0 (sym s.1 ∙ t.1) le
-
--- a beginning that is as long is the whole
-pub extends-whole : (p a : List Publication) → Extends a p → length p ≤ length a → a ≡ p
-extends-whole p a s le = let f : length p ≡ length a + length s.0 = ap length s.1 ∙ length-append a s.0 in
-    sym (s.1 ∙ (ap (λ (l : List Publication). a ++ l) (none_left s.0 (omega arith)) ∙ append-nil a))
-  where
-    none_left : (l : List Publication) → length l ≡ 0 → l ≡ []
-    none_left [] e = refl
-    none_left (x ∷ xs) e = absurd (omega arith)

@@ -1,4 +1,4 @@
--- How the words of a table are laid before it is opened_with, block by block.
+-- How the words of a table are laid before it is opened, block by block.
 use Rattle.std.specs.Prelude.{◌≡◌, ◌≢◌, ℕ, ◌+◌, ◌*◌, ◌<◌, ◌≤◌, List, [], ◌∷◌, length, slice_index_or, All}
 use Rattle.flow_types.specs.Size.{value_bits}
 use Rattle.group_search.specs.declared.record.GroupRecord.{GroupRecord}
@@ -8,9 +8,10 @@ use Rattle.group_search.specs.Image.{Image}
 use Rattle.group_search.specs.Published.{opening_record}
 use Rattle.group_search.specs.Words.{HasBits}
 use Rattle.group_cell.specs.Changes.{Untouched}
-use Rattle.group_cell.specs.Layout.{sequence}
+use Rattle.group_cell.specs.Layout.{block_words, sequence}
 use Rattle.group_cell.specs.Opening.{HaveAllGroups, Opened}
-use Rattle.group_cell.specs.Rule.{HasNodes, Holds, RowsStand}
+use Rattle.group_search.specs.Records.{HasNodes}
+use Rattle.group_cell.specs.Rule.{Holds, RowsStand}
 use Rattle.group_cell.specs.Seating.{AreOwners, places_of}
 
 -- the group of the block that is laid, whose words stand at the front
@@ -37,14 +38,14 @@ pub record LeavesOthers (at : Home) (words words' owners owners' : List ℕ) : T
 
 -- the block's groups are laid
 pub record IsBlockLaid (words owners : List ℕ) (image : Image) : Type 0 where
-  pub width : length words ≡ 320
+  pub width : length words ≡ block_words
   pub all : 64 ≤ length image.records
   pub owners_of : AreOwners owners words 0
   pub groups : (group : ℕ) → group < 64 → IsLaid words owners (in_front group) (opening_record (image ∷ []) (in_front group))
 
 -- the blocks of these images are laid
 pub record AreLaid (words : List ℕ) (owners : List (List ℕ)) (images : List Image) : Type 0 where
-  pub wide : length words ≡ 320 * length images
+  pub wide : length words ≡ block_words * length images
   pub one_each : length owners ≡ length images
   pub all : HaveAllGroups images
   pub owners_of : (block : ℕ) → block < length images → AreOwners (slice_index_or owners block []) words block

@@ -1,7 +1,9 @@
--- Where the words of a table stand. A block has two words for each of its 64 row places, and then three for each of its
--- 64 groups: the sequence word and two data words.
+-- Where the words of a table stand. A block has two words for each of its row places, and then for each of its groups
+-- the sequence word and the data words.
 use Rattle.std.specs.Prelude.{ℕ, ◌+◌, ◌-◌, ◌*◌, ◌/◌, ◌%◌, ◌^◌, List, [], ◌∷◌, slice_index}
+use Rattle.block_layout.specs.Limits.{group_count}
 use Rattle.group_search.specs.Home.{Home}
+use Rattle.group_search.specs.Limits.{most_rows}
 use Rattle.group_cell.specs.declared.view.Address.{Address}
 
 abbrev pub home_of : Address → Home
@@ -10,22 +12,38 @@ home_of a = record { block = a.block; group = a.group }
 abbrev pub address : Home → Address
 address at = record { block = at.block; group = at.group }
 
+-- how many data words a group has
+abbrev pub data_words : ℕ
+data_words = 2
+
+-- their numbers
+abbrev pub data_numbers : List ℕ
+data_numbers = 0 ∷ 1 ∷ []
+
+-- how many words of a block are its places'; they come first
+abbrev pub row_words : ℕ
+row_words = 2 * most_rows
+
+-- how many words a block has
+abbrev pub block_words : ℕ
+block_words = row_words + group_count * (1 + data_words)
+
 -- the two words of a place
 abbrev pub low_word : (block place : ℕ) → ℕ
-low_word block place = 320 * block + 2 * place
+low_word block place = block_words * block + 2 * place
 
 abbrev pub high_word : (block place : ℕ) → ℕ
-high_word block place = 320 * block + 2 * place + 1
+high_word block place = block_words * block + 2 * place + 1
 
 abbrev pub sequence_word : Home → ℕ
-sequence_word at = 320 * at.block + 128 + 3 * at.group
+sequence_word at = block_words * at.block + row_words + (1 + data_words) * at.group
 
 abbrev pub data_word : Home → ℕ → ℕ
-data_word at j = 320 * at.block + 129 + 3 * at.group + j
+data_word at j = sequence_word at + 1 + j
 
 -- the group of a sequence word
 abbrev pub home_of_word : (word : ℕ) → Home
-home_of_word word = record { block = word / 320; group = (word % 320 - 128) / 3 }
+home_of_word word = record { block = word / block_words; group = (word % block_words - row_words) / (1 + data_words) }
 
 abbrev pub low : List ℕ → (block place : ℕ) → ℕ
 low words block place = slice_index words (low_word block place)

@@ -1,4 +1,4 @@
--- What a table was opened_with with.
+-- What a table was opened with.
 use Rattle.std.specs.Prelude.{ℕ, ◌<◌, ◌≤◌, List, [], length, slice_index_or}
 use Rattle.flow_types.specs.Size.{Size}
 use Rattle.group_search.specs.Image.{Image}

@@ -1,10 +1,11 @@
 -- What each step on a table tells its seat.
 use Rattle.std.specs.Prelude.{◌≡◌, ℕ, ◌+◌, ◌/◌, ◌%◌, ◌^◌, ◌<◌, List, [], ◌∷◌, ◌++◌, length, slice_index, slice_set, Option, Some, None, if◌then◌else◌, ◌==◌, nat_lt}
+use mathlib.Core.List.{IsPrefix}
 use Rattle.atomic_table.specs.Table.{Me, Step}
 use Rattle.group_search.specs.declared.published.Publication.{Publication}
 use Rattle.group_search.specs.declared.record.GroupRecord.{GroupRecord}
 use Rattle.group_search.specs.Home.{Home}
-use Rattle.group_search.specs.Published.{count, Extends}
+use Rattle.group_search.specs.Published.{count}
 use Rattle.group_cell.specs.Opening.{Opened, unopened}
 use Rattle.group_cell.specs.declared.view.Load.{Load}
 use Rattle.group_cell.specs.declared.view.Sight.{Sight}
@@ -120,7 +121,7 @@ module _ {S : Type 0} where
 
   -- a look begins: the reader sees what is published by then
   abbrev pub StartsLook : Step S → Me S View → ℕ → Me S View → Type 0
-  StartsLook st m n m' = (seen : List Publication) × Extends (reader_view m.0).seen seen × (count seen (home_of_word st.word) ≡ n / 2) × (n < 2 ^ 33)
+  StartsLook st m n m' = (seen : List Publication) × IsPrefix (reader_view m.0).seen seen × (count seen (home_of_word st.word) ≡ n / 2) × (n < 2 ^ 33)
       × (m' ≡ (Reader (looking (home_of_word st.word) n seen (reader_view m.0)), m.1))
 
   abbrev pub Loads : Step S → Me S View → ℕ → Me S View → Type 0

@@ -1,5 +1,6 @@
--- The rule of one table: what its words and the views of its seats have to do with what was published.
-use Rattle.std.specs.Prelude.{◌≡◌, ◌≢◌, ◌⊎◌, ℕ, ◌+◌, ◌*◌, ◌%◌, ◌^◌, ◌<◌, ◌≤◌, All, List, [], length, slice_index, Some, IfSome}
+-- The rule of one table: what its words and what its seats know have to do with what was published.
+use Rattle.std.specs.Prelude.{◌≡◌, ◌≢◌, ◌⊎◌, ℕ, ◌+◌, ◌*◌, ◌%◌, ◌^◌, ◌<◌, ◌≤◌, List, [], length, slice_index, Some, IfSome}
+use mathlib.Core.List.{IsPrefix}
 use mathlib.Core.Option.{some}
 use lib.ListN.{get_elem?}
 use Rattle.atomic_table.specs.Table.{State}
@@ -9,7 +10,7 @@ use Rattle.group_search.specs.declared.record.GroupRecord.{GroupRecord}
 use Rattle.group_search.specs.declared.record.GroupRecord.TheVariants.{Served, Fallback}
 use Rattle.group_search.specs.declared.rows.Row.{Row}
 use Rattle.group_search.specs.Home.{Home}
-use Rattle.group_search.specs.Published.{count, record_at, Extends}
+use Rattle.group_search.specs.Published.{count, record_at}
 use Rattle.group_search.specs.Rows.{AreRows}
 use Rattle.group_search.specs.RowWords.{SpellsRow}
 use Rattle.group_search.specs.Words.{PacksTo, packed_of, words_of}
@@ -20,7 +21,8 @@ use Rattle.group_cell.specs.declared.view.WriterView.{WriterView}
 use Rattle.group_cell.specs.declared.view.ReaderView.{ReaderView}
 use Rattle.group_cell.specs.declared.view.View.{View}
 use Rattle.group_cell.specs.declared.view.View.TheVariants.{Writer, Reader, Spent}
-use Rattle.group_cell.specs.Layout.{home_of, low_word, high_word, data_word, high, place_words, sequence, datum, tag}
+use Rattle.group_cell.specs.Layout.{block_words, data_words, home_of, low_word, high_word, data_word, high, place_words, sequence, datum, tag}
+use Rattle.group_search.specs.Records.{HasNodes}
 
 abbrev pub IsEven : ℕ → Type 0
 IsEven n = n % 2 ≡ 0
@@ -47,23 +49,25 @@ abbrev pub IsSoundRecord : GroupRecord → Type 0
 IsSoundRecord (Served pairs) = Unit {0}
 IsSoundRecord (Fallback rows) = AreRows rows
 
--- each of the record's rows goes to one of so many nodes
-abbrev pub HasNodes : (nodes : ℕ) → GroupRecord → Type 0
-HasNodes nodes (Served pairs) = Unit {0}
-HasNodes nodes (Fallback rows) = All (λ (row : Row). row.node < nodes) rows
+-- the i-th of the rows
+abbrev pub IsRow : List Row → (i : ℕ) → Row → Type 0
+IsRow rows i row = get_elem? rows i ≡ some row
 
--- the row stands in the list
-abbrev pub HasRow : List Row → Row → Type 0
-HasRow rows row = (i : ℕ) × (get_elem? rows i ≡ some row)
-
--- the places with the group's tag hold just these rows
+-- each row has one place, which holds its words, no two rows have the same, and no other place has the group's tag
 pub record RowsStand (words : List ℕ) (at : Home) (rows : List Row) : Type 0 where
-  pub into : (k : ℕ) → k < 64 → tag (high words at.block k) ≡ at.group + 1 → (row : Row) × HasRow rows row × SpellsRow at.group row (place_words words at.block k)
-  pub onto : (row : Row) → HasRow rows row → (k : ℕ) × (k < 64) × SpellsRow at.group row (place_words words at.block k)
+  pub place_of : (i : ℕ) → ℕ
+  pub inside : (i : ℕ) (row : Row) → IsRow rows i row → place_of i < 64
+  pub holds : (i : ℕ) (row : Row) → IsRow rows i row → SpellsRow at.group row (place_words words at.block (place_of i))
+  pub apart : (i j : ℕ) (x y : Row) → IsRow rows i x → IsRow rows j y → place_of i ≡ place_of j → i ≡ j
+  pub tagged : (k : ℕ) → k < 64 → tag (high words at.block k) ≡ at.group + 1 → (i : ℕ) × (row : Row) × IsRow rows i row × (place_of i ≡ k)
 
--- the record stands in the group's data words and places, and is one of a cluster of so many nodes
+-- each place of these blocks is free or is one group's
+abbrev pub AreTagged : List ℕ → (blocks : ℕ) → Type 0
+AreTagged words blocks = (block k : ℕ) → block < blocks → k < 64 → tag (high words block k) ≤ 64
+
+-- the record stands in the group's data words and places, and is one of a cluster of this many nodes
 pub record Holds (nodes : ℕ) (words : List ℕ) (at : Home) (content : GroupRecord) : Type 0 where
-  pub data_words : (j : ℕ) → j < 2 → datum words at j ≡ slice_index (words_of content) j
+  pub data_words : (j : ℕ) → j < data_words → datum words at j ≡ slice_index (words_of content) j
   pub packs : PacksTo (value_bits nodes) (packed_of content) (words_of content)
   pub rows : RowsStand words at (rows_placed content)
   pub sound : IsSoundRecord content
@@ -81,18 +85,20 @@ pub record Rests (w : WriterView) (at : Home) : Type 0 where
 abbrev pub AllIn : (List Publication → Type 0) → List (List Publication) → Type 0
 AllIn P lists = (k : ℕ) (l : List Publication) → get_elem? lists k ≡ some l → P l
 
--- the words are those of the published records, but for the group in writing, whose sequence word is odd
+-- the words are those of the published records, but for the group in writing, whose sequence word is odd; no place is
+-- lost, to whichever group it belongs
 pub record Stands (w : WriterView) : Type 0 where
-  pub wide : length w.words ≡ 320 * length w.opening.images
+  pub wide : length w.words ≡ block_words * length w.opening.images
   pub few : length w.published < 2 ^ 32
   pub rest : (at : Home) → IsIn w.opening at → IsAtRest w at → Rests w at
+  pub places : AreTagged w.words (length w.opening.images)
   pub in_writing : IfSome w.writing (λ a. IsIn w.opening (home_of a) × (sequence w.words (home_of a) ≡ 2 * count w.published (home_of a) + 1))
-  pub heard : AllIn (λ l. Extends l w.published) w.heard
+  pub heard : AllIn (λ l. IsPrefix l w.published) w.heard
 
 -- what was loaded stands there, as far as the group's record is concerned: its data words, the tags of its places, and
 -- the words of these places
 pub record IsFresh (words : List ℕ) (at : Home) (x : Load) : Type 0 where
-  pub data_words : (j : ℕ) → j < 2 → x.word ≡ data_word at j → x.found ≡ slice_index words x.word
+  pub data_words : (j : ℕ) → j < data_words → x.word ≡ data_word at j → x.found ≡ slice_index words x.word
   pub tags : (k : ℕ) → k < 64 → x.word ≡ high_word at.block k → (tag x.found ≡ at.group + 1) ⊎ (tag (slice_index words x.word) ≡ at.group + 1)
       → x.found ≡ slice_index words x.word
   pub rows : (k : ℕ) → k < 64 → x.word ≡ low_word at.block k → tag (high words at.block k) ≡ at.group + 1 → x.found ≡ slice_index words x.word
@@ -120,8 +126,8 @@ pub record Looks (w : WriterView) (r : ReaderView) (l : Sight) : Type 0 where
 -- a reader has seen a beginning of what was published
 pub record Sees (w : WriterView) (r : ReaderView) : Type 0 where
   pub opening : r.opening ≡ w.opening
-  pub seen : Extends r.seen w.published
-  pub heard : AllIn (λ l. Extends l r.seen) r.heard
+  pub seen : IsPrefix r.seen w.published
+  pub heard : AllIn (λ l. IsPrefix l r.seen) r.heard
   pub look : IfSome r.last (Looks w r)
 
 abbrev pub AgreesWith : WriterView → (writer seat : ℕ) → View → Type 0

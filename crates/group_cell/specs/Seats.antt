@@ -1,5 +1,5 @@
 -- What a contract sees of a table and its seats.
-use Rattle.std.specs.Prelude.{◌≡◌, ◌≢◌, ◌⊎◌, ℕ, zero, suc, ◌+◌, ◌*◌, ◌%◌, ◌==◌, List, [], ◌∷◌, map, Option, Some, if◌then◌else◌}
+use Rattle.std.specs.Prelude.{◌≡◌, ◌≢◌, ◌⊎◌, ℕ, zero, suc, ◌+◌, ◌*◌, ◌%◌, ◌==◌, List, map, Option, Some, if◌then◌else◌}
 use Rattle.flow_types.specs.declared.key.FlowKey.{FlowKey}
 use Rattle.group_search.specs.declared.entry.Pair.{Pair}
 use Rattle.group_search.specs.declared.published.Publication.{Publication}
@@ -13,7 +13,7 @@ use Rattle.group_cell.specs.declared.table.WriterSeat.{WriterSeat}
 use Rattle.group_cell.specs.declared.table.ReaderSeat.{ReaderSeat}
 use Rattle.group_cell.specs.declared.view.Load.{Load}
 use Rattle.group_cell.specs.Opening.{Opened}
-use Rattle.group_cell.specs.Layout.{address, data_word}
+use Rattle.group_cell.specs.Layout.{address, data_numbers, data_word}
 use Rattle.group_cell.specs.Rule.{latest}
 use Rattle.group_cell.specs.Plays.{writer_view, reader_view}
 use Rattle.group_cell.specs.Seating.{last_look, loads_of}
@@ -21,7 +21,7 @@ use Rattle.group_cell.specs.Seating.{last_look, loads_of}
 abbrev pub the_group : (block group : ℕ) → Home
 the_group block group = record { block = block; group = group }
 
--- what the table was opened_with with
+-- what the table was opened with
 abbrev pub opened_with : CellTable → Opened
 opened_with table = table.table.shared.key.value
 
@@ -66,10 +66,10 @@ pub record FindsNode (opening : Opened) (reader : ReaderSeat) (at : Home) (key :
 abbrev pub loaded_words : ReaderSeat → List ℕ
 loaded_words reader = map (λ l. l.word) (loads_of reader.seat)
 
--- where the group's record of this version is a served one, the last look loaded the two data words, and no place
+-- where the group's record of this version is a served one, the last look loaded the data words, and no place
 abbrev pub LoadsDataAlone : Opened → ReaderSeat → Home → (version : ℕ) → Type 0
 LoadsDataAlone opening reader at version = (pairs : List Pair) → record_at opening.images (seen reader) at version ≡ Served pairs
-    → loaded_words reader ≡ data_word at 0 ∷ data_word at 1 ∷ []
+    → loaded_words reader ≡ map (data_word at) data_numbers
 
 -- the group was in writing when this look began, or its sequence word was another when it ended
 pub record Changes (reader : ReaderSeat) (at : Home) (first second : ℕ) : Type 0 where

@@ -3,15 +3,15 @@ ghost use Rattle.std.specs.Prelude.{◌≡◌, ◌<◌};
 ghost use Rattle.group_cell.specs.Layout as layout;
 
 use crate::view::Address;
+use block_layout::GROUPS;
+use group_search::MOST_ROWS;
 
-/// The number of words of a block.
-pub const BLOCK_WORDS: usize = 320;
-/// The number of groups of a block.
-pub const GROUPS: u8 = 64;
 /// The number of row places of a block, of two words each.
-pub const PLACES: usize = 64;
+pub const PLACES: usize = MOST_ROWS;
 /// The number of data words of a group.
 pub const DATA_WORDS: usize = 2;
+/// The number of words of a block: those of its places, and then a sequence word and the data words for each group.
+pub const BLOCK_WORDS: usize = 2 * PLACES + GROUPS as usize * (1 + DATA_WORDS);
 
 /// The first word of a place.
 pub fn low_word(block: u16, place: usize) -> usize
@@ -38,7 +38,7 @@ pub fn sequence_word(at: Address) -> usize
 
 /// A data word of a group.
 pub fn data_word(at: Address, number: usize) -> usize
-    requires { number < 2 }
+    requires { number < layout.data_words }
     ensures { result ≡ layout.data_word (layout.home_of at) number }
 {
     sequence_word(at) + 1 + number

@@ -7,11 +7,12 @@
 //! applies updates and a `ReaderSeat` to each that routes.
 //!
 //! A contract sees the list of what the writer has published and, of each reader, how much of it the reader has seen
-//! (`specs/Seats.antt`; counts and versions are those of `group_search`'s `specs/Published.antt`). `specs/Rule.antt` says
+//! (`specs/Seats.antt`; counts and versions are those of `group_search/specs/Published.antt`). `specs/Rule.antt` says
 //! what words and seats have to do with these lists, and `specs/Plays.antt` what each step tells its seat.
 //!
-//! No call waits, and none but `open` takes memory. Proved, for every interleaving of loads and stores: each call's
-//! exact answer, and that the node in it is one of the cluster's. Not said: that a look ever succeeds beside a writer that never rests. Only tested: that threads ran.
+//! No call waits. What makes a plan or opens a table takes memory (`TablePlan::of`, `open`, `open_plan`), and no other call.
+//! Proved, for every interleaving of loads and stores: each call's exact answer, and that the node in it is one of the
+//! cluster's. Not said: that a look ever succeeds beside a writer that never rests. Only tested: that threads ran.
 #![tactic(auto)]
 
 mod layout;

@@ -30,7 +30,7 @@ pub type Cells = Table<u64, View, Snapshot<Opening>, Law, Global>;
 pub type Shelf = Shared<u64, View, Snapshot<Opening>, Law>;
 
 /// A seat at that table: the one writer's, or a reader's.
-pub type Place = Seat<u64, View>;
+pub type CellSeat = Seat<u64, View>;
 
 /// The writer loads a word, and learns that it is what its seat says.
 pub struct Ask;

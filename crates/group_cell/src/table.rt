@@ -1,9 +1,10 @@
 ghost use Rattle.std.specs.Prelude.{◌≡◌, ◌*◌, ◌<◌, length};
+ghost use Rattle.group_cell.specs.Layout.{block_words};
 ghost use Rattle.group_cell.specs.Seating.{IsReaderSeat, IsWriterSeat, Tallies};
 ghost use Rattle.group_cell.specs.Plays.{writer_view};
 
 use crate::layout::PLACES;
-use crate::plays::{Cells, Place};
+use crate::plays::{CellSeat, Cells};
 use flow_types::Shape;
 
 mod decoding;
@@ -20,13 +21,13 @@ pub use opening::TablePlan;
 
 /// Groups of some blocks of a cluster's table, which one writer rewrites in place under any number of readers.
 ///
-/// No call waits for another thread, and none but `open` takes memory. Each call takes the table by `&self` and a seat,
-/// which says who calls.
+/// No call waits for another thread. `open` and `open_plan` take memory, and no other call. Each call takes the table by
+/// `&self` and a seat, which says who calls.
 #[derive(Drop)]
 pub struct CellTable {
     table: Cells,
     shape: Shape,
-    ghost wide: { table.shared.table_id.words ≡ 320 * length table.shared.key.value.images },
+    ghost wide: { table.shared.table_id.words ≡ block_words * length table.shared.key.value.images },
     ghost has_a_block: { 0 < length table.shared.key.value.images },
     ghost shaped: { table.shared.key.value.size ≡ shape },
 }
@@ -34,7 +35,7 @@ pub struct CellTable {
 /// The seat of a table's one writer. A contract sees the list of what it has published.
 #[derive(Drop)]
 pub struct WriterSeat {
-    seat: Place,
+    seat: CellSeat,
     // The tag of each place of each block.
     owners: Vec<[u8; PLACES]>,
     ghost writes: { IsWriterSeat seat },
@@ -44,7 +45,7 @@ pub struct WriterSeat {
 /// The seat of a reader. A contract sees the list of what it has seen of what was published.
 #[derive(Drop)]
 pub struct ReaderSeat {
-    seat: Place,
+    seat: CellSeat,
     ghost reads: { IsReaderSeat seat },
 }
 

@@ -1,7 +1,8 @@
 ghost use Rattle.std.specs.Prelude.{◌≡◌, ◌+◌, ◌<◌, ◌≤◌, All, IfOk, IfSome, length, sum_by};
 ghost use Rattle.group_search.specs.Canon.{rows_in};
 ghost use Rattle.group_search.specs.Words.{HasBits};
-ghost use Rattle.group_cell.specs.Rule.{HasNodes, IsIn};
+ghost use Rattle.group_search.specs.Records.{HasNodes};
+ghost use Rattle.group_cell.specs.Rule.{IsIn};
 ghost use Rattle.group_cell.specs.Seats.{IsReaderOf, IsWriterOf, opened_with, published, the_group};
 
 use crate::{CellTable, ReaderSeat, WriterSeat};
@@ -38,7 +39,7 @@ fn served(node: u8) -> GroupRecord
     })
 }
 
-/// A record with so many rows, 2..=64, of the keys from 1 up, each with this node, one of sixteen.
+/// A record with this many rows, 2..=64, of the keys from 1 up, each with this node, one of sixteen.
 fn fallback(count: u8, node: u8) -> Option<GroupRecord>
     requires { count ≤ 64 }
     ensures bits { IfSome result (λ content. HasBits 4 content) }
@@ -215,7 +216,7 @@ fn node_of_version(version: u32) -> Option<u8> {
     Some((version % 16) as u8)
 }
 
-/// Publishes so many records, of six groups in turn, and counts those for which there was room.
+/// Publishes as many records as asked, of six groups in turn, and counts those for which there was room.
 fn publish_many(table: &CellTable, mut writer: WriterSeat, times: u32) -> (WriterSeat, u32)
     requires writer { IsWriterOf table.now writer }
     requires blocks { length (opened_with table.now).images ≡ 2 }
@@ -235,7 +236,7 @@ fn publish_many(table: &CellTable, mut writer: WriterSeat, times: u32) -> (Write
     (writer, done)
 }
 
-/// Looks so many times, and counts the answers and those that aren't what was published as their version.
+/// Looks as often as asked, and counts the answers and those that aren't what was published as their version.
 fn look_many(table: &CellTable, mut reader: ReaderSeat, times: u32) -> (u32, u32)
     requires reader { IsReaderOf table.now reader }
     requires blocks { length (opened_with table.now).images ≡ 2 }

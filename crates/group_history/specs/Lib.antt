@@ -3,3 +3,4 @@ pub mod Journal
 pub mod Kept
 pub mod History
 pub mod Routes
+pub mod Acceptance

@@ -7,6 +7,7 @@ ghost use Rattle.flow_types.specs.Key.{number};
 ghost use Rattle.flow_types.specs.Map.{AreDistinct, flow_at};
 ghost use Rattle.group_search.specs.Home.{Home};
 ghost use Rattle.group_history.specs.declared.change.Change.{Change};
+ghost use Rattle.group_history.specs.Acceptance.{OneCaseHolds};
 ghost use Rattle.group_history.specs.Change.{concerns, flow_to, step};
 ghost use Rattle.group_history.specs.Journal.{change_count};
 ghost use Rattle.group_history.specs.History.{at_version, now};
@@ -46,4 +47,9 @@ pub fn versions_of_a_group()
         at_version opening changes at version ≡ Some flows → AreDistinct flows }
     ensures stays { (opening : List Flow) (changes later : List Change) (at : Home) (version : ℕ) → version ≤ change_count at changes →
         at_version opening (changes ++ later) at version ≡ at_version opening changes at version }
+{}
+
+/// On any grounds exactly one case of the judgement of an update holds: the one that `refusal` names.
+pub fn one_case_holds()
+    ensures { OneCaseHolds }
 {}

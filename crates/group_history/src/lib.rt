@@ -10,8 +10,12 @@
 mod change;
 mod journal;
 pub mod laws;
+mod refused;
 #[cfg(test)]
 mod tests;
+mod update;
 
 pub use change::Change;
 pub use journal::Journal;
+pub use refused::UpdateRefused;
+pub use update::Update;

@@ -63,7 +63,7 @@ module _ (entries : List Entry) (bits bit : ℕ) (pairs : List Pair) (so_far : A
 -- ---- what the least pairs are
 
 module _ (entries : List Entry) where
-  -- the pairs of so many bits from `bit` on are the least ones
+  -- the pairs of a number of bits from `bit` on are the least ones
   pub record AreLeastFrom (count bit : ℕ) (pairs : List Pair) : Type 0 where
     pub one_each : length pairs ≡ count
     pub least : (b : ℕ) → b < count → IsLeast (bit + b) entries (get_or pairs b zero_pair)

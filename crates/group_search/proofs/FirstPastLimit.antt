@@ -27,7 +27,7 @@ module _ (size : Size) (flows : List Flow) where
   unfolding past_limit_at
   tells block = tells-case block _ _ refl refl
 
-  -- of so many blocks from `block` on, the first that is past a limit
+  -- of a number of blocks from `block` on, the first that is past a limit
   FromHere : (count block : ℕ) → Option PastLimit → Type 0
   FromHere count block None = (other : ℕ) → block ≤ other → other < block + count → IsWithin size flows other
   FromHere count block (Some past) =

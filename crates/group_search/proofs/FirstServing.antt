@@ -77,7 +77,7 @@ module _ (bit : ℕ) (entries : List Entry) where
       let same : suc count - 1 ≡ count = omega arith in
       rw (s, same)
 
-  -- the pair is that of the first index from `index` on, among so many, that serves
+  -- the pair is that of the first index from `index` on, among the next `count`, that serves
   pub record IsFirst (count index : ℕ) (pair : Pair) : Type 0 where
     pub from : index ≤ pair.index
     pub within : pair.index < index + count

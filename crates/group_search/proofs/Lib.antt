@@ -18,3 +18,6 @@ pub mod NeededRows
 pub mod Mapped
 pub mod EachFlow
 pub mod FirstPastLimit
+pub mod Below
+pub mod NodesBelow
+pub mod Sums

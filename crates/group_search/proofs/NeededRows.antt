@@ -1,5 +1,5 @@
 -- How many rows the canonical record of entries has.
-use Rattle.std.proofs.Common.{◌≡◌, ◌<◌, ◌≤◌, ◌∙◌, ℕ, Bool, true, false, cond, List, length, map, Option, Some, None, is_some, refl, ap, arith}
+use Rattle.std.proofs.Common.{◌≡◌, ◌<◌, ◌≤◌, ◌∙◌, ℕ, Bool, true, false, cond, List, length, map, Option, Some, None, is_some, refl, ap, arith, ◌-◌}
 use Rattle.std.specs.Prelude.{nat_le}
 use Rattle.std.proofs.lemmas.Bool.Decides.{nat_tests}
 use Rattle.std.proofs.lemmas.List.{length-map}
@@ -13,6 +13,8 @@ use Rattle.group_search.specs.Rows.{row_of, rows_of}
 use Rattle.group_search.specs.Canon.{canonical, fallback, is_separable, least_pairs, served_or, rows_in}
 use Rattle.group_search.specs.Build.{rows_needed}
 use Rattle.group_search.proofs.Rising.{rows_permuted}
+use Rattle.flow_types.specs.declared.record.Flow.{Flow}
+use Rattle.group_search.specs.Records.{entries, entry_of}
 
 length-rows_of : (entries : List Entry) → length (rows_of entries) ≡ length entries
 length-rows_of entries = length_permutation (map row_of entries) (rows_of entries) (rows_permuted entries) ∙ length-map entries row_of
@@ -59,3 +61,6 @@ module _ (entries : List Entry) where
   pub few_needed : (bits : ℕ) → rows_needed bits entries ≤ length entries
   unfolding rows_needed
   few_needed bits = one_each (is_separable bits entries)
+
+pub length-entries : (flows : List Flow) → length (entries flows) ≡ length flows
+length-entries flows = length-map flows entry_of

@@ -8,7 +8,7 @@ use Rattle.flow_types.specs.Map.{HaveDistinctKeys}
 use Rattle.group_search.specs.Rows.{entry_key}
 use Rattle.group_search.specs.declared.entry.Entry.{Entry}
 
--- so many entries with this source, numbered from 1 up
+-- a number of entries with this source, numbered from 1 up
 pub record AreNumbered (source count : ℕ) (entries : List Entry) : Type 0 where
   pub all : length entries ≡ count
   pub at : (k : ℕ) (d : Entry) → k < length entries → number (get_or entries k d).key ≡ source * 2 ^ 72 + k + 1

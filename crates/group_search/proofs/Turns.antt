@@ -27,7 +27,7 @@ is_not : (b : Bool) → not b ≡ true → b ≡ false
 is_not true h = cc
 is_not false h = refl
 
--- ---- so many indexes, and then more
+-- ---- the first indexes, and then more
 
 module _ (ones zeros : List HashPair) where
   pub found_early : (some all index : ℕ) (pair : Pair) → some ≤ all → first_between some index ones zeros ≡ Some pair → first_between all index ones zeros ≡ Some pair

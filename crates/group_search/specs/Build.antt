@@ -1,6 +1,6 @@
 -- The table that the flows of a cluster give: an image for each block, or the first block that is past a limit.
-use Rattle.std.specs.Prelude.{ℕ, zero, suc, ◌≡◌, ◌+◌, ◌<◌, ◌≤◌, List, length, map, sum, Option, Some, None, if◌then◌else◌, nat_lt, slice_index_or}
-use Rattle.std.specs.List.{slice_get}
+use Rattle.std.specs.Prelude.{ℕ, zero, suc, ◌≡◌, ◌==◌, ◌+◌, ◌-◌, ◌<◌, ◌≤◌, not, List, length, map, filter, sum, Option, Some, None, if◌then◌else◌, nat_lt, slice_index_or}
+use Rattle.std.specs.List.{range_with_len, slice_get}
 use Rattle.block_layout.specs.Dealing.{groups}
 use Rattle.block_layout.specs.Limits.{group_count, most_keys}
 use Rattle.group_search.specs.Limits.{most_rows}
@@ -25,6 +25,10 @@ rows_needed_in size flows block group =
 unfoldable pub needed : Size → List Flow → (block : ℕ) → ℕ
 needed size flows block = sum (map (rows_needed_in size flows block) groups)
 
+-- how many of a block's rows its groups other than this one leave, where each group takes as many as `taken` says
+unfoldable pub rows_left : (taken : ℕ → ℕ) → (group : ℕ) → ℕ
+rows_left taken group = most_rows - sum (map taken (filter (λ (other : ℕ). not (other == group)) (range_with_len 0 group_count)))
+
 -- the block that is past a limit: it has too many flows, or else they need too many rows
 pub data PastLimit : Type 0 where
   TooManyFlows : (block : ℕ) → PastLimit
@@ -40,7 +44,7 @@ abbrev pub or_later : Option PastLimit → Option PastLimit → Option PastLimit
 or_later (Some here) later = Some here
 or_later None later = later
 
--- the first of so many blocks, from `block` on, that is past a limit
+-- the first of a number of blocks, from `block` on, that is past a limit
 unfoldable pub first_past_limit : (count block : ℕ) → Size → List Flow → Option PastLimit
 first_past_limit zero block size flows = None
 first_past_limit (suc count) block size flows = or_later (past_limit_at size flows block) (first_past_limit count (block + 1) size flows)
@@ -70,7 +74,7 @@ pub record IsWithin (size : Size) (flows : List Flow) (block : ℕ) : Type 0 whe
 pub record HasTooManyFlows (size : Size) (flows : List Flow) (block : ℕ) : Type 0 where
   pub many : most_keys < length (flows_of size.blocks block flows)
 
--- the block's flows are few enough, and they need so many rows, which are too many
+-- the block's flows are few enough, and they need this number of rows, which is too many
 pub record NeedsTooManyRows (size : Size) (flows : List Flow) (block rows : ℕ) : Type 0 where
   pub few : length (flows_of size.blocks block flows) ≤ most_keys
   pub rows_are : rows ≡ needed size flows block

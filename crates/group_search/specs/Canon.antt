@@ -16,7 +16,7 @@ prepend None rest = None
 prepend (Some pair) None = None
 prepend (Some pair) (Some rest) = Some (pair ∷ rest)
 
--- the least pairs of so many bits from `bit` on, where each has one
+-- the least pairs of a number of bits from `bit` on, where each has one
 unfoldable pub least_pairs : (count bit : ℕ) → List Entry → Option (List Pair)
 least_pairs zero bit entries = Some []
 least_pairs (suc count) bit entries = prepend (least_of bit entries) (least_pairs count (bit + 1) entries)

@@ -25,7 +25,7 @@ are_apart ones zeros = bit_and ones zeros == 0
 abbrev pub array_between : (ones zeros : ℕ) → Option ℕ
 array_between ones zeros = if are_apart ones zeros then Some ones else None
 
--- the first index from `index` on, among so many, at which no position has both a one and a zero
+-- the first index from `index` on, among a number of them, at which no position has both a one and a zero
 unfoldable pub first_between : (count index : ℕ) → (ones zeros : List HashPair) → Option Pair
 first_between zero index ones zeros = None
 first_between (suc count) index ones zeros =

@@ -2,11 +2,11 @@
 -- record has a pair for each value bit.
 use Rattle.std.specs.Prelude.{ℕ}
 
--- the hash family has so many indexes; each is below it
+-- how many indexes the hash family has; each is below it
 abbrev pub index_count : ℕ
 index_count = 65536
 
--- an array has so many positions; each is below it
+-- how many positions an array has; each is below it
 abbrev pub position_count : ℕ
 position_count = 8
 
@@ -14,6 +14,6 @@ position_count = 8
 abbrev pub fewest_rows : ℕ
 fewest_rows = 2
 
--- all groups of a block have at most so many fallback rows together
+-- how many fallback rows all groups of a block have together, at most
 abbrev pub most_rows : ℕ
 most_rows = 64

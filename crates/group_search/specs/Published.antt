@@ -1,5 +1,5 @@
 -- Records that were published one after the other for the groups of a table: how many a group has, and which is its v-th.
-use Rattle.std.specs.Prelude.{◌≡◌, ℕ, List, [], ◌∷◌, ◌++◌, length, slice_index_or, if◌then◌else◌}
+use Rattle.std.specs.Prelude.{ℕ, List, [], ◌∷◌, length, slice_index_or, if◌then◌else◌}
 use Rattle.group_search.specs.declared.published.Publication.{Publication}
 use Rattle.group_search.specs.declared.record.GroupRecord.{GroupRecord}
 use Rattle.group_search.specs.declared.record.GroupRecord.TheVariants.{Served}
@@ -27,10 +27,6 @@ last opening ps at version = slice_index_or (opening ∷ records_of ps at) versi
 abbrev pub opening_record : List Image → Home → GroupRecord
 opening_record images at = slice_index_or (slice_index_or images at.block (record { choices = []; records = [] })).records at.group (Served [])
 
--- the record of the group after so many publications for it, in a table that was opened with these images
+-- the record of the group after a number of publications for it, in a table that was opened with these images
 abbrev pub record_at : List Image → List Publication → Home → ℕ → GroupRecord
 record_at images ps at version = last (opening_record images at) ps at version
-
--- the second list goes on where the first ends
-abbrev pub Extends : (shorter longer : List Publication) → Type 0
-Extends shorter longer = (rest : List Publication) × (longer ≡ shorter ++ rest)

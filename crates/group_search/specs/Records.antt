@@ -7,8 +7,10 @@ use Rattle.group_search.specs.declared.entry.Entry.{Entry}
 use Rattle.group_search.specs.declared.record.GroupRecord.{GroupRecord}
 use Rattle.group_search.specs.Canon.{canonical}
 use Rattle.group_search.specs.Home.{Home, opening}
+use Rattle.group_search.specs.declared.record.GroupRecord.TheVariants.{Served, Fallback}
+use Rattle.group_search.specs.declared.rows.Row.{Row}
 
--- each flow's handler is one of so many nodes
+-- each flow's handler is a node of the cluster, which has this number of nodes
 abbrev pub AreHandled : (nodes : ℕ) → List Flow → Type 0
 AreHandled nodes flows = All (λ (flow : Flow). flow.node < nodes) flows
 
@@ -26,3 +28,8 @@ content_of nodes flows = canonical (value_bits nodes) (entries flows)
 -- the canonical record of the flows that have this home
 unfoldable pub record_of : Size → List Flow → Home → Option GroupRecord
 record_of size flows at = content_of size.nodes (opening size.blocks flows at)
+
+-- each of the record's rows goes to a node of the cluster, which has this number of nodes
+abbrev pub HasNodes : (nodes : ℕ) → GroupRecord → Type 0
+HasNodes nodes (Served pairs) = Unit {0}
+HasNodes nodes (Fallback rows) = All (λ (row : Row). row.node < nodes) rows

@@ -51,7 +51,7 @@ abbrev pub at_index : ℕ → Option ℕ → Option Pair → Option Pair
 at_index index (Some array) later = Some (record { index = index; array = array })
 at_index index None later = later
 
--- the first index from `index` on that serves, among so many
+-- the first index from `index` on that serves, among a number of them
 unfoldable pub first_serving : (count index bit : ℕ) → List Entry → Option Pair
 first_serving zero index bit entries = None
 first_serving (suc count) index bit entries =

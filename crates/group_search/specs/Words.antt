@@ -49,7 +49,7 @@ pub record IsPair (p : Pair) : Type 0 where
   pub index : p.index < 2 ^ 16
   pub array : p.array < 2 ^ 8
 
--- the words are those of so many pairs
+-- the words are those of a number of pairs
 pub record AreServedWords (bits : ℕ) (pairs : List Pair) (words : List ℕ) : Type 0 where
   pub one_each : length pairs ≡ bits
   pub enough : 1 ≤ bits
@@ -57,18 +57,18 @@ pub record AreServedWords (bits : ℕ) (pairs : List Pair) (words : List ℕ) : 
   pub sized : All IsPair pairs
   pub spelled : words ≡ served_words pairs
 
--- the words are those of so many rows
+-- the words are those of a number of rows
 pub record AreFallbackWords (rows : ℕ) (words : List ℕ) : Type 0 where
   pub enough : fewest_rows ≤ rows
   pub few : rows ≤ most_rows
   pub spelled : words ≡ fallback_words rows
 
--- a record with so many value bits, or with rows, packs to these words, and this is what they keep of it
+-- a record with this number of value bits, or with rows, packs to these words, and this is what they keep of it
 abbrev pub PacksTo : (bits : ℕ) → Packed → List ℕ → Type 0
 PacksTo bits (Words.Served pairs) words = AreServedWords bits pairs words
 PacksTo bits (Words.Fallback rows) words = AreFallbackWords rows words
 
--- the record has so many value bits, or rows
+-- the record has this number of value bits, or rows
 abbrev pub HasBits : (bits : ℕ) → GroupRecord → Type 0
 HasBits bits (Record.Served pairs) = length pairs ≡ bits
 HasBits bits (Record.Fallback rows) = ⊤

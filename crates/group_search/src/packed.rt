@@ -8,8 +8,8 @@ use crate::record::value_at;
 use crate::words::pairs_of;
 use flow_types::FlowKey;
 
-/// The node that the pairs in these words give a key, of so many nodes: what `decode` answers of the served record of
-/// so many value bits that packs to them.
+/// The node that the pairs in these words give a key, in a cluster of `nodes`: what `decode` answers of the served
+/// record of so many value bits that packs to them.
 ///
 /// There are at most 4 value bits. Where no served record packs to the words, the answer is arbitrary.
 #[tactic(auto, unfolding(crate::specs::Decoding::decode))]

@@ -7,7 +7,7 @@ use hash_family::position;
 
 /// What `least` gives, by trying one index after the other.
 ///
-/// `least` takes this way for entries that are too many for its lines: of so many hardly any index serves, and an
+/// `least` takes this way for entries that are too many for its lines: those hardly any index serves, and an
 /// index is left after some ten of them.
 pub fn least_plain(entries: &[Entry], bit: u8) -> Option<Pair>
     requires { bit < 8 }

@@ -19,7 +19,7 @@ pub enum GroupRecord {
 }
 
 impl GroupRecord {
-    /// The handler of a key of the group, of so many nodes.
+    /// The handler of a key of the group, a node of the cluster.
     ///
     /// Served: the value whose bit b is the b-th array's bit at the key's position; `None` where it is no node's
     /// number. For a key that isn't in the group the value is arbitrary. Fallback: the node of the key's row; `None`

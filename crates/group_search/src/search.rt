@@ -12,7 +12,7 @@ use arrayvec::ArrayVec;
 /// The greatest number of entries that are searched by lines. More are searched plainly.
 const MOST_LINES: usize = 40;
 
-/// The turns that take all indexes, so many lanes at a time.
+/// The rounds that take all indexes, sixteen lanes at a time.
 const TURNS: u32 = 4_096;
 
 /// The least index that serves the entries at this bit of their nodes, with its array, or `None` where no index

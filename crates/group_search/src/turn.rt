@@ -9,7 +9,7 @@ use std::simd::prelude::*;
 /// The indexes that are tried at a time.
 pub const LANES: u32 = 16;
 
-/// After so many zeros the turn is looked at for the first time: mostly no lane is free by then.
+/// After this number of zeros the turn is looked at for the first time: mostly no lane is free by then.
 const FIRST_LOOK: usize = 4;
 
 /// The least of sixteen indexes from `first` on at which no position has both a one and a zero, with the ones'

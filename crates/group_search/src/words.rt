@@ -42,7 +42,7 @@ pub fn pack(content: &GroupRecord) -> [u64; 2]
     }
 }
 
-/// What these words keep of a record of so many value bits, or `None` where no record of so many bits packs to them.
+/// What these words keep of a record of `bits` value bits, or `None` where no record of that many packs to them.
 pub fn unpack(words: [u64; 2], bits: u8) -> Option<Packed>
     ensures value { (packed : Packed) → (result ≡ Some packed) ↔ PacksTo bits packed words }
     ensures none { IsNone result ↔ ((packed : Packed) → ¬ PacksTo bits packed words) }
@@ -66,7 +66,7 @@ fn rows_of(words: [u64; 2]) -> Option<u8>
     Some(rows as u8)
 }
 
-/// The pairs of the served record of so many bits that packs to these words.
+/// The pairs of the served record of `bits` bits that packs to these words.
 fn served_of(words: [u64; 2], bits: u8) -> Option<Served>
     ensures { (pairs : List Pair) → (result ≡ Some pairs) ↔ AreServedWords bits pairs words }
 {

@@ -12,7 +12,7 @@ entry None = 255
 abbrev is_right : ℕ → Bool
 is_right octet = slice_index VALUES octet == entry (hex_digit_value octet)
 
--- the test of the first so many octets, which computes
+-- the test of the first octets, which computes
 abbrev all_right : ℕ → Bool
 all_right zero = true
 all_right (suc n) = is_right n && all_right n

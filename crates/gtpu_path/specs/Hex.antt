@@ -1,5 +1,6 @@
 -- Octets as text, two hexadecimal digits each.
-use Rattle.std.specs.Prelude.{ℕ, ◌≡◌, ◌<◌, false, List, take, length, slice_index, Option, Some, None, Result, Ok, Err}
+use Rattle.std.specs.Prelude.{ℕ, ◌≡◌, ◌<◌, false, List, ◌++◌, codes, take, length, slice_index, Option, Some, None, Result, Ok, Err}
+use Rattle.std.specs.Fmt.{decimal}
 use Rattle.std.specs.List.{AllPass}
 use Rattle.std.specs.Str.{str_to_ascii_lowercase}
 use Rattle.hex.specs.Hex.{decode_of, encode_lower, is_hex_digit}
@@ -42,3 +43,9 @@ abbrev pub named_refusal : HexRefused → Option HexRefused
 named_refusal Odd = Some Odd
 named_refusal (Digit at) = Some (Digit at)
 named_refusal OutOfMemory = None
+
+-- how a refusal is printed
+abbrev pub refusal_text : HexRefused → List ℕ
+refusal_text Odd = codes "an odd number of digits"
+refusal_text (Digit at) = codes "no digit at place " ++ decimal at
+refusal_text OutOfMemory = codes "out of memory"

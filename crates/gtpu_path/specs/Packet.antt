@@ -1,5 +1,6 @@
 -- The headers of an IPv4 packet, and which octets are refused as one.
-use Rattle.std.specs.Prelude.{ℕ, ◌+◌, ◌*◌, ◌/◌, ◌%◌, ◌^◌, ◌==◌, ◌&&◌, ◌||◌, not, nat_lt, Bool, if◌then◌else◌, List, [], ◌∷◌, length, Result}
+use Rattle.std.specs.Prelude.{ℕ, ◌+◌, ◌*◌, ◌/◌, ◌%◌, ◌^◌, ◌==◌, ◌&&◌, ◌||◌, not, nat_lt, Bool, if◌then◌else◌, List, [], ◌∷◌, ◌++◌, codes, length, Result}
+use Rattle.std.specs.Fmt.{decimal}
 use Rattle.flow_types.specs.declared.key.FlowKey.{FlowKey}
 use Rattle.gtpu_path.specs.declared.packet.PacketHead.{PacketHead}
 use Rattle.gtpu_path.specs.declared.packet.PacketRefused.{PacketRefused}
@@ -37,7 +38,7 @@ header_length_in octets = 4 * header_words_in octets
 abbrev pub has_ports : (protocol : ℕ) → Bool
 has_ports protocol = protocol == 6 || protocol == 17
 
--- the port so many octets after the header, or 0 where the protocol has none
+-- the port `after_header` octets after the header, or 0 where the protocol has none
 abbrev pub port_in : (after_header : ℕ) → List ℕ → ℕ
 port_in after_header octets = if has_ports (protocol_in octets) then two_at (header_length_in octets + after_header) octets else 0
 
@@ -70,3 +71,12 @@ packet_rules octets =
 -- what the octets are read as: the headers of a packet, or the first broken rule
 unfoldable pub packet_in : List ℕ → Result PacketHead PacketRefused
 packet_in octets = unless_refused (first_broken (packet_rules octets)) (head_in octets)
+
+-- how a refusal is printed
+abbrev pub refusal_text : PacketRefused → List ℕ
+refusal_text Short = codes "fewer octets than the shortest header"
+refusal_text (Version version) = codes "version " ++ decimal version
+refusal_text (HeaderLength words) = codes "a header of " ++ decimal words ++ codes " words"
+refusal_text (TotalLength total) = codes "a length of " ++ decimal total ++ codes " octets"
+refusal_text (Fragment offset) = codes "a fragment from " ++ decimal offset ++ codes " on"
+refusal_text NoPorts = codes "no ports"

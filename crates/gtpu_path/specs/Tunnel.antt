@@ -1,5 +1,6 @@
 -- The octets of a G-PDU, and which octets are refused as one.
-use Rattle.std.specs.Prelude.{ℕ, ◌+◌, ◌==◌, not, nat_lt, List, [], ◌∷◌, ◌++◌, length, drop, Result}
+use Rattle.std.specs.Prelude.{ℕ, ◌+◌, ◌==◌, not, nat_lt, List, [], ◌∷◌, ◌++◌, length, drop, codes, Result}
+use Rattle.std.specs.Fmt.{decimal}
 use Rattle.gtpu_path.specs.declared.tunnel.GpduRefused.{GpduRefused}
 use Rattle.gtpu_path.specs.declared.tunnel.GpduRefused.TheVariants.{Short, Flags, MessageType, Length}
 use Rattle.gtpu_path.specs.Octets.{octet_at, two_at, four_at, in_two, in_four}
@@ -33,3 +34,10 @@ gpdu_rules octets =
 -- what the octets are read as: the TEID of a G-PDU, or the first broken rule
 unfoldable pub tunnel_in : List ℕ → Result ℕ GpduRefused
 tunnel_in octets = unless_refused (first_broken (gpdu_rules octets)) (teid_in octets)
+
+-- how a refusal is printed
+abbrev pub refusal_text : GpduRefused → List ℕ
+refusal_text Short = codes "fewer octets than the header"
+refusal_text (Flags octet) = codes "flags " ++ decimal octet
+refusal_text (MessageType octet) = codes "message type " ++ decimal octet
+refusal_text (Length length) = codes "a length of " ++ decimal length ++ codes " octets"

@@ -8,6 +8,8 @@ use crate::octets::Octets;
 use hex::FromHexError;
 use out_of_memory::OutOfMemory;
 use std::alloc::Global;
+use std::error::Error;
+use std::fmt;
 
 /// The value of each octet as a digit, or 255. A look here is no branch: of figures and letters in any order, a processor
 /// guesses many wrong.
@@ -41,6 +43,23 @@ pub enum HexRefused {
     /// Memory that the call asked for was not there.
     OutOfMemory,
 }
+
+impl fmt::Display for HexRefused {
+    ghost use Rattle.std.specs.Prelude.{Some};
+    ghost use Rattle.gtpu_path.specs.Hex.{refusal_text};
+
+    ghost output = { λ refusal. Some (refusal_text refusal) };
+
+    fn fmt<W: fmt::Write>(&self, f: &mut fmt::Formatter<W>) -> fmt::Result {
+        match self {
+            HexRefused::Odd => f.write_str("an odd number of digits"),
+            HexRefused::Digit { at } => write!(f, "no digit at place {at}"),
+            HexRefused::OutOfMemory => f.write_str("out of memory"),
+        }
+    }
+}
+
+impl Error for HexRefused {}
 
 impl From<FromHexError> for HexRefused {
     ghost use Rattle.gtpu_path.specs.Hex.{refusal_of};

@@ -7,6 +7,8 @@ ghost use Rattle.gtpu_path.specs.Rules.{AreMet, IsFirstBroken};
 
 use byteorder::{BigEndian, ByteOrder};
 use flow_types::FlowKey;
+use std::error::Error;
+use std::fmt;
 
 /// The octets of the shortest header (RFC 791, section 3.1).
 const SHORTEST_HEADER: usize = 20;
@@ -64,6 +66,26 @@ pub enum PacketRefused {
     /// A packet of TCP or UDP ends before its ports do (RFC 9293, section 3.1; RFC 768, "Format").
     NoPorts,
 }
+
+impl fmt::Display for PacketRefused {
+    ghost use Rattle.std.specs.Prelude.{Some};
+    ghost use Rattle.gtpu_path.specs.Packet.{refusal_text};
+
+    ghost output = { λ refusal. Some (refusal_text refusal) };
+
+    fn fmt<W: fmt::Write>(&self, f: &mut fmt::Formatter<W>) -> fmt::Result {
+        match self {
+            PacketRefused::Short => f.write_str("fewer octets than the shortest header"),
+            PacketRefused::Version { version } => write!(f, "version {version}"),
+            PacketRefused::HeaderLength { words } => write!(f, "a header of {words} words"),
+            PacketRefused::TotalLength { total } => write!(f, "a length of {total} octets"),
+            PacketRefused::Fragment { offset } => write!(f, "a fragment from {offset} on"),
+            PacketRefused::NoPorts => f.write_str("no ports"),
+        }
+    }
+}
+
+impl Error for PacketRefused {}
 
 /// The headers of the packet that the octets begin with. Octets past its total length are padding; a first fragment is
 /// read like a whole packet. The header's checksum isn't looked at.
@@ -166,7 +188,7 @@ fn has_ports(protocol: u8) -> bool
 }
 
 /// The addresses (RFC 791, section 3.1, "Source Address" and "Destination Address") and the protocol, and the ports after a
-/// header of so many octets. Of a protocol without ports they are 0.
+/// header of `header` octets. Of a protocol without ports they are 0.
 fn key(octets: &[u8], header: usize) -> FlowKey
     requires header { header ≡ header_length_in octets.now }
     requires whole { 20 ≤ length octets.now }
@@ -188,7 +210,7 @@ fn key(octets: &[u8], header: usize) -> FlowKey
     }
 }
 
-/// The source and the destination port after a header of so many octets (RFC 9293, section 3.1; RFC 768, "Format").
+/// The source and the destination port after a header of `header` octets (RFC 9293, section 3.1; RFC 768, "Format").
 fn ports(octets: &[u8], header: usize) -> (u16, u16)
     requires { header + 4 ≤ length octets.now }
     ensures source { result.0 ≡ two_at header octets.now }

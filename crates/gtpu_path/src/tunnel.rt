@@ -7,6 +7,8 @@ use crate::octets::Octets;
 use byteorder::{BigEndian, ByteOrder};
 use out_of_memory::OutOfMemory;
 use std::alloc::Global;
+use std::error::Error;
+use std::fmt;
 
 /// The octets of the header without optional fields (TS 29.281, section 5.1).
 const HEADER: usize = 8;
@@ -38,6 +40,24 @@ pub enum GpduRefused {
         length: u16,
     },
 }
+
+impl fmt::Display for GpduRefused {
+    ghost use Rattle.std.specs.Prelude.{Some};
+    ghost use Rattle.gtpu_path.specs.Tunnel.{refusal_text};
+
+    ghost output = { λ refusal. Some (refusal_text refusal) };
+
+    fn fmt<W: fmt::Write>(&self, f: &mut fmt::Formatter<W>) -> fmt::Result {
+        match self {
+            GpduRefused::Short => f.write_str("fewer octets than the header"),
+            GpduRefused::Flags { octet } => write!(f, "flags {octet}"),
+            GpduRefused::MessageType { octet } => write!(f, "message type {octet}"),
+            GpduRefused::Length { length } => write!(f, "a length of {length} octets"),
+        }
+    }
+}
+
+impl Error for GpduRefused {}
 
 /// The G-PDU without optional fields that carries a packet through the tunnel of this TEID (TS 29.281, sections 5.1 and
 /// 6.1).

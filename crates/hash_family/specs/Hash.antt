@@ -3,6 +3,7 @@
 use Rattle.std.specs.Prelude.{ℕ, ◌+◌, ◌*◌, ◌/◌, ◌%◌, ◌^◌, bit_or, bit_xor}
 use Rattle.flow_types.specs.declared.key.FlowKey.{FlowKey}
 use Rattle.flow_types.specs.Key.{number}
+use Rattle.block_layout.specs.Limits.{bucket_count}
 use Rattle.hash_family.specs.declared.bucket.Place.{Place}
 use Rattle.hash_family.specs.declared.pairing.HashPair.{HashPair}
 
@@ -33,9 +34,9 @@ seed j = j * seed_step % 2 ^ 64
 unfoldable pub base : ℕ → ℕ → ℕ
 base j key = mix ((mix (bit_xor (key % 2 ^ 64) (seed j)) + key / 2 ^ 64) % 2 ^ 64)
 
--- the block and bucket of a key, where there are so many blocks
+-- the block and bucket of a key, in a table of `blocks` blocks
 unfoldable pub place : ℕ → FlowKey → Place
-place blocks key = record { block = base 1 (number key) / 2 ^ 32 % blocks; bucket = base 1 (number key) % 256 }
+place blocks key = record { block = base 1 (number key) / 2 ^ 32 % blocks; bucket = base 1 (number key) % bucket_count }
 
 -- the hash at index 0, and what each further index adds, an odd number
 unfoldable pub pair : FlowKey → HashPair

@@ -125,10 +125,10 @@ takes pass log may letter letters logs h at =
         message = message;
         letter_of = subst (λ (s : Size). IsLetter s letter message) (sym mine.1) first.letter_of;
         taken = refl;
-        was_sent = λ p. record {
-          rest = first.rest;
-          whole = ((h.known pass log at).sends p).2 ∙ in_order ∙ ap (λ (l : List Message). (l ++ message ∷ []) ++ first.rest) (sym mine.2);
-        };
+        was_sent = λ p. (
+          first.rest,
+          ap (λ (l : List Message). (l ++ message ∷ []) ++ first.rest) mine.2 ∙ sym in_order ∙ sym ((h.known pass log at).sends p).2,
+        );
       },
     )
 

@@ -9,7 +9,7 @@ use Rattle.delta_codec.specs.declared.message.Message.{Message}
 use Rattle.node_link.specs.declared.rule.Log.{Log}
 use Rattle.node_link.specs.Letter.{AreLetters}
 
--- so many nodes and blocks
+-- a shape by its numbers
 abbrev pub size_of : (nodes blocks : ℕ) → Size
 size_of nodes blocks = record { nodes = nodes; blocks = blocks }
 

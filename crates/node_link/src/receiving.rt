@@ -13,9 +13,9 @@ use flow_types::Shape;
 use out_of_memory::OutOfMemory;
 use std::sync::Wait;
 
-/// Takes the next message, by one pop at most. The shape is the link's.
+/// Takes the next message, and no other. The shape is the link's.
 ///
-/// It answers `Empty` only where the queue was empty at a step of this call. It takes no memory.
+/// It answers `Empty` only where the queue was empty at a step of this call, which no clause says. It takes no memory.
 #[inline(always)]
 pub fn receive<R: Wait>(rt: &R, end: &mut TakeEnd, shape: Shape) -> Result<Taken, OutOfMemory>
     requires shape { end.old.size ≡ shape }

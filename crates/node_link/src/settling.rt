@@ -1,9 +1,10 @@
 //! How a link is emptied by whoever has both ends.
 
 ghost use Rattle.std.specs.Prelude.{◌≡◌, IfOk, IsOk, Ok};
+ghost use mathlib.Core.List.{IsPrefix};
 ghost use Rattle.node_link.specs.declared.taken.Taken.TheVariants.{Empty};
 ghost use Rattle.node_link.specs.Ends.{IsPort, TakesNext};
-ghost use Rattle.node_link.specs.Moves.{IsBeginning, PopsLetter};
+ghost use Rattle.node_link.specs.Moves.{PopsLetter};
 ghost use Rattle.node_link.specs.Rule.{full_log, sender_log, taker_log};
 
 use crate::ends::{SendEnd, TakeEnd};
@@ -15,7 +16,7 @@ use flow_types::Shape;
 use out_of_memory::OutOfMemory;
 use std::sync::Wait;
 
-/// Takes the next message, by one pop at most, with both ends of the link in hand. The shape is the link's.
+/// Takes the next message, and no other, with both ends of the link in hand. The shape is the link's.
 ///
 /// It answers `Empty` only where the queue was empty at a step of this call: then all that was sent was taken, in order. It
 /// takes no memory.
@@ -33,7 +34,7 @@ pub fn settle<R: Wait>(
     ensures line { taker.new.line ≡ taker.old.line }
     ensures size { taker.new.size ≡ taker.old.size }
     ensures took { IfOk result (λ taken. TakesNext taker.old taken taker.new) }
-    ensures in_order { IsBeginning taker.new.messages sender.new.messages }
+    ensures in_order { IsPrefix taker.new.messages sender.new.messages }
     ensures all { result ≡ Ok Empty → taker.new.messages ≡ sender.new.messages }
 {
     let (Some(mine), Some(theirs)) = (taker.port.take(), sender.port.take()) else {

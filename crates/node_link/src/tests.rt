@@ -68,7 +68,7 @@ fn served() -> GroupRecord {
     GroupRecord::Served(Served { bits: 2, pairs })
 }
 
-/// The rows of so many keys, 2..=64.
+/// The rows of this number of keys, 2..=64.
 fn rows(count: u8) -> Result<GroupRecord, Fail>
     requires { count ≤ 64 }
 {
@@ -187,7 +187,7 @@ fn send_many<R: Wait>(rt: &R, end: SendEnd, shape: Shape) -> (SendEnd, bool)
     (end, true)
 }
 
-/// Whether it is the message of the turn after so many.
+/// Whether it is the message of the turn after this one.
 fn is_next(taken: &Taken, turns: u32) -> bool
     ensures { IsTrue result → turns < 1000 }
 {
@@ -212,7 +212,7 @@ fn take_some<R: Wait>(rt: &R, end: TakeEnd, shape: Shape) -> (TakeEnd, Option<u3
     (end, Some(turns))
 }
 
-/// Takes the rest: how many messages came in order in all, after so many, if no other did.
+/// Takes the rest: how many messages came in order in all, with those before, if no other did.
 fn settle_all<R: Wait>(
     rt: &R,
     sender: &mut SendEnd,

@@ -5,7 +5,7 @@ use Rattle.flow_types.specs.declared.record.Record.{Record}
 use Rattle.flow_types.specs.Key.{number}
 use Rattle.group_search.specs.Home.{Home}
 use Rattle.partial_fib.specs.Fib.{FibState}
-use Rattle.replay_model.specs.Packets.{answer_of}
+use Rattle.run_model.specs.Packets.{answer_of}
 use Rattle.packet_path.specs.Path.{answered_by}
 
 pub answered-said : (seen : ℕ) (sent : Option ℕ) (fib_of : ℕ → FibState) (at : Home) (key : FlowKey) (node asked version fib : ℕ) (answer : Option Record)

@@ -6,7 +6,7 @@ use Rattle.std.proofs.lemmas.List.{get_or-map, get_or-set_other, get_or-set_same
 use Rattle.std.proofs.lemmas.Option.{same_Some, get_or_from_slice_get, slice_get-get_or, slice_get_cases, slice_get_past, slice_get_read, slice_get_within}
 use Rattle.flow_types.specs.Size.{Size}
 use Rattle.partial_fib.specs.Ends.{IsLater, ReaderState, shared_after}
-use Rattle.partial_fib.proofs.Prefixes.{prefix_self}
+use Rattle.flow_types.proofs.Prefixes.{prefix_self}
 use Rattle.packet_path.specs.Fibs.{AreFibsOf, AsksOne, IsFibOf, fib_seen, no_fib, opening_at, turns_at}
 
 pub set-here : {A : Type 0} (xs : List A) (i : ℕ) (x : A) → i < length xs → slice_get (set xs i x) i ≡ Some x

@@ -6,7 +6,7 @@ use Rattle.flow_types.specs.Size.{Size, value_bits}
 use Rattle.group_search.specs.Canon.{rows_in}
 use Rattle.group_search.specs.Image.{Image}
 use Rattle.group_search.specs.Words.{HasBits}
-use Rattle.group_cell.specs.Rule.{HasNodes}
+use Rattle.group_search.specs.Records.{HasNodes}
 use Rattle.replica_shard.specs.Store.{CanBeTables}
 use Rattle.partial_fib.specs.Ends.{ReaderState}
 use Rattle.packet_path.specs.Fibs.{AreFibsOf, IsFibOf, opening_at}

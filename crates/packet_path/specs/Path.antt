@@ -12,9 +12,9 @@ use Rattle.replica_shard.specs.Shard.{home_in_state, route_in_state}
 use Rattle.replica_shard.specs.Store.{shard_state_of}
 use Rattle.partial_fib.specs.Ends.{ReaderState}
 use Rattle.partial_fib.specs.Fib.{FibState}
-use Rattle.replay_model.specs.declared.reply.Reply.{Reply}
-use Rattle.replay_model.specs.declared.reply.Reply.TheVariants.{Nowhere}
-use Rattle.replay_model.specs.Packets.{answer_of}
+use Rattle.run_model.specs.declared.reply.Reply.{Reply}
+use Rattle.run_model.specs.declared.reply.Reply.TheVariants.{Nowhere}
+use Rattle.run_model.specs.Packets.{answer_of}
 use Rattle.packet_path.specs.Fibs.{fib_seen}
 
 -- the home of the key, and where the table sends the key after these records

@@ -1,18 +1,18 @@
 //! The path of one packet.
 ghost use Rattle.std.specs.Prelude.{◌≡◌, ◌*◌, ◌<◌, IfSome, List, Some};
+ghost use mathlib.Core.List.{IsPrefix};
 ghost use Rattle.flow_types.specs.Key.{number};
 ghost use Rattle.group_search.specs.declared.published.Publication.{Publication};
 ghost use Rattle.group_search.specs.Owned.{IsOwned};
-ghost use Rattle.group_search.specs.Published.{Extends};
-ghost use Rattle.replay_model.specs.Packets.{answer_of};
+ghost use Rattle.run_model.specs.Packets.{answer_of};
 ghost use Rattle.replica_shard.specs.Seats.{HasRouted, IsShardReaderOf, first_loads, seen_list};
 ghost use Rattle.packet_path.specs.Fibs.{AreFibsOf, AsksOne, fib_seen};
 ghost use Rattle.packet_path.specs.Path.{home_at, path_by, route_at};
 
 use flow_types::FlowKey;
 use partial_fib::{FibReader, FibSeen};
-use replay_model::Reply;
 use replica_shard::{Route, Shard, ShardReader};
+use run_model::Reply;
 use std::sync::Wait;
 use std::thread;
 
@@ -35,7 +35,7 @@ pub fn path_of<R: Wait>(
 
     // The table is asked in this call: `seen` is the version that the last look's two loads found.
     ensures reader { IsShardReaderOf shard.now reader.new }
-    ensures later { Extends (seen_list shard.now reader.old) (seen_list shard.now reader.new) }
+    ensures later { IsPrefix (seen_list shard.now reader.old) (seen_list shard.now reader.new) }
     ensures looks { first_loads reader.old < first_loads reader.new }
     ensures this_look { let seen = (route_at shard.now (seen_list shard.now reader.new) key).version in
         HasRouted shard.now reader.new (home_at shard.now (seen_list shard.now reader.new) key) (2 * seen) (2 * seen) }
@@ -63,7 +63,7 @@ fn routed<R: Wait>(rt: &R, key: FlowKey, shard: &Shard, reader: &mut ShardReader
     requires reader { IsShardReaderOf shard.now reader.old }
     requires owned { IsOwned shard.now.shape shard.now.owner key }
     ensures reader { IsShardReaderOf shard.now reader.new }
-    ensures later { Extends (seen_list shard.now reader.old) (seen_list shard.now reader.new) }
+    ensures later { IsPrefix (seen_list shard.now reader.old) (seen_list shard.now reader.new) }
     ensures looks { first_loads reader.old < first_loads reader.new }
     ensures answer { result ≡ route_at shard.now (seen_list shard.now reader.new) key }
     ensures this_look { HasRouted shard.now reader.new (home_at shard.now (seen_list shard.now reader.new) key) (2 * result.version) (2 * result.version) }

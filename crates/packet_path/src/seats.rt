@@ -1,10 +1,11 @@
 //! A shard in common, with the seat of its writer or of a reader.
-ghost use Rattle.std.specs.Prelude.{◌≡◌, ◌≢◌, ◌↔◌, ◌<◌, ◌≤◌, ◌+◌, ◌*◌, ◌∷◌, [], ◌++◌, ℕ, IfOk, OnOk, OnErr, IsErrOf, length};
+ghost use Rattle.std.specs.Prelude.{◌≡◌, ◌↔◌, ◌<◌, ◌+◌, ◌*◌, ◌∷◌, [], ◌++◌, ℕ, IfOk, OnOk, OnErr, IsErrOf, length};
+ghost use mathlib.Core.List.{IsPrefix};
 ghost use Rattle.group_search.specs.Canon.{rows_in};
 ghost use Rattle.group_search.specs.Owned.{IsOwned};
-ghost use Rattle.group_search.specs.Published.{Extends};
+ghost use Rattle.delta_codec.specs.Turns.{IsEarly, IsForeign, IsRepeat};
 ghost use Rattle.replica_shard.specs.declared.refused.ShardRefused.TheVariants.{Foreign, Repeat, Early, RowsFull};
-ghost use Rattle.replica_shard.specs.Message.{TableMessageFits};
+ghost use Rattle.delta_codec.specs.Messages.{TableMessageFits};
 ghost use Rattle.replica_shard.specs.Owners.{publication_of};
 ghost use Rattle.replica_shard.specs.Seats.{IsShardWriterOf, taken_list};
 ghost use Rattle.replica_shard.specs.Shard.{free_rows, with_content};
@@ -18,8 +19,8 @@ use delta_codec::TableMessage;
 use flow_types::FlowKey;
 use out_of_memory::OutOfMemory;
 use partial_fib::FibReader;
-use replay_model::Reply;
 use replica_shard::{Shard, ShardReader, ShardRefused, ShardWriter};
+use run_model::Reply;
 use std::alloc::Global;
 use std::marker::Model;
 use std::sync::{Arc, Wait};
@@ -65,12 +66,11 @@ impl TableSeat {
         ensures shard { self.new.shard ≡ self.old.shard }
         ensures listed { OnOk result (self.new.list ≡ self.old.list ++ publication_of message.now ∷ []) }
         ensures taken { OnOk result (shard_state_of (table_taken self.new) ≡ with_content (shard_state_of (table_taken self.old)) message.now) }
-        ensures foreign { (owner : ℕ) → IsErrOf result (Foreign owner) ↔
-            ((message.now.owner ≢ self.old.shard.owner) × (owner ≡ message.now.owner)) }
+        ensures foreign { (owner : ℕ) → IsErrOf result (Foreign owner) ↔ IsForeign self.old.shard.owner message.now.owner owner }
         ensures repeat { (have : ℕ) → IsErrOf result (Repeat have) ↔
-            ((message.now.owner ≡ self.old.shard.owner) × (message.now.turn ≤ length self.old.list) × (have ≡ length self.old.list)) }
+            IsRepeat self.old.shard.owner (length self.old.list) message.now.owner message.now.turn have }
         ensures early { (have : ℕ) → IsErrOf result (Early have) ↔
-            ((message.now.owner ≡ self.old.shard.owner) × (length self.old.list + 1 < message.now.turn) × (have ≡ length self.old.list)) }
+            IsEarly self.old.shard.owner (length self.old.list) message.now.owner message.now.turn have }
         ensures rows_full { (needed free : ℕ) → IsErrOf result (RowsFull needed free) ↔
             ((message.now.owner ≡ self.old.shard.owner) × (message.now.turn ≡ length self.old.list + 1) ×
             (needed ≡ rows_in message.now.content) ×
@@ -136,7 +136,7 @@ impl ViewSeat {
         requires { self.old.shard ≡ table.old.shard }
         ensures shard { self.new.shard ≡ self.old.shard }
         ensures all { self.new.list ≡ table.old.list }
-        ensures before { Extends self.old.list table.old.list }
+        ensures before { IsPrefix self.old.list table.old.list }
         ensures kept { table.new ≡ table.old }
     {
         self.shard.meet(&mut self.reader, &mut table.writer);
@@ -151,7 +151,7 @@ impl ViewSeat {
         requires fibs { AreFibsOf self.old.shard.shape self.old.shard.owner fibs.old }
         ensures said { result ≡ path_by self.new.shard self.new.list fibs.new key }
         ensures shard { self.new.shard ≡ self.old.shard }
-        ensures later { Extends self.old.list self.new.list }
+        ensures later { IsPrefix self.old.list self.new.list }
         ensures looks { self.old.loads < self.new.loads }
         ensures this_look { let seen = (route_at self.new.shard self.new.list key).version in
             HasLookedAt self.new (home_at self.new.shard self.new.list key) (2 * seen) (2 * seen) }

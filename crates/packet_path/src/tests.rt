@@ -1,7 +1,7 @@
 ghost use Rattle.std.specs.Prelude.{◌≡◌, ◌<◌, ◌≤◌, All, IfOk, IfSome, sum_by};
 ghost use Rattle.group_search.specs.Canon.{rows_in};
 ghost use Rattle.group_search.specs.Words.{HasBits};
-ghost use Rattle.group_cell.specs.Rule.{HasNodes};
+ghost use Rattle.group_search.specs.Records.{HasNodes};
 ghost use Rattle.packet_path.specs.Fibs.{AreFibsOf, IsFibOf};
 
 use crate::{TableSeat, ViewSeat};
@@ -11,8 +11,8 @@ use flow_types::{FlowKey, Record, Shape};
 use group_search::{BlockImage, GroupRecord, Pair, Row, Rows, Served};
 use hash_family::place;
 use partial_fib::{Fib, FibReader, FibWriter, share};
-use replay_model::Reply;
 use replica_shard::Shard;
+use run_model::Reply;
 use std::alloc::{AllocError, Global};
 use std::process::Abort;
 use std::sync::Wait;

@@ -9,8 +9,8 @@ use Rattle.flow_types.specs.declared.why.BadRow.{BadRow}
 use Rattle.flow_types.specs.declared.why.Why.{Why}
 use Rattle.flow_types.specs.declared.why.Why.TheVariants as why
 use Rattle.csv_rows.specs.Rows.{Row}
-use Rattle.flow_reader.specs.Fields.{and_then}
-use Rattle.flow_reader.specs.Opening.{bad_row}
+use Rattle.row_fields.specs.Fields.{and_then}
+use Rattle.row_fields.specs.Refused.{bad_row}
 use Rattle.packet_reader.specs.declared.event.Event.{Event}
 use Rattle.packet_reader.specs.declared.event.Event.TheVariants.{Set, Del, Packet, Carry, Sync}
 use Rattle.packet_reader.specs.declared.mode.Mode.{Mode}

@@ -7,7 +7,7 @@ use Rattle.flow_types.specs.Size.{Size}
 use Rattle.flow_types.specs.declared.why.BadRow.{BadRow}
 use Rattle.flow_types.specs.declared.why.Why.{Why}
 use Rattle.flow_types.specs.declared.why.Why.TheVariants as why
-use Rattle.flow_reader.specs.Opening.{bad_row}
+use Rattle.row_fields.specs.Refused.{bad_row}
 use Rattle.packet_reader.specs.declared.event.Event.{Event}
 use Rattle.packet_reader.specs.declared.kind.Kind.{Kind}
 use Rattle.packet_reader.specs.declared.mode.Mode.{Mode}

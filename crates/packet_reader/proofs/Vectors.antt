@@ -5,8 +5,8 @@ use Rattle.flow_types.specs.Text.{address_value, number_value}
 use Rattle.flow_types.specs.declared.key.FlowKey.{FlowKey}
 use Rattle.flow_types.specs.declared.why.Why.TheVariants as why
 use Rattle.csv_rows.specs.Rows.{Row}
-use Rattle.flow_reader.specs.Fields.{key_at}
-use Rattle.flow_reader.specs.Opening.{bad_row}
+use Rattle.row_fields.specs.Fields.{key_at}
+use Rattle.row_fields.specs.Refused.{bad_row}
 use Rattle.packet_reader.specs.declared.event.Event.TheVariants.{Packet, Carry, Sync}
 use Rattle.packet_reader.specs.declared.event.Part.TheVariants.{Fib}
 use Rattle.packet_reader.specs.declared.mode.Mode.TheVariants.{Replay, Storm}

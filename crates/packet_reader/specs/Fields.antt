@@ -3,8 +3,9 @@ use Rattle.std.specs.Prelude.{ℕ, nat_lt, if◌then◌else◌, codes, Option, S
 use Rattle.std.specs.Str.{bytes_eq}
 use Rattle.flow_types.specs.declared.why.Why.{Why}
 use Rattle.flow_types.specs.declared.why.Why.TheVariants as why
+use Rattle.flow_types.specs.Limits.{most_turns}
 use Rattle.csv_rows.specs.Rows.{Field, Row, field_at}
-use Rattle.flow_reader.specs.Fields.{and_then, flow_of, key_at, node_field, number_field}
+use Rattle.row_fields.specs.Fields.{and_then, flow_of, key_at, node_field, number_field}
 use Rattle.packet_reader.specs.declared.event.Event.{Event}
 use Rattle.packet_reader.specs.declared.event.Event.TheVariants.{Set, Del, Packet, Carry, Sync}
 use Rattle.packet_reader.specs.declared.event.Part.{Part}
@@ -32,7 +33,7 @@ abbrev pub one_turn : ℕ → Result ℕ Why
 one_turn turn = if nat_lt 0 turn then Ok turn else Err why.Number
 
 abbrev pub turn_field : Field → Result ℕ Why
-turn_field text = and_then (number_field 65535 text) one_turn
+turn_field text = and_then (number_field most_turns text) one_turn
 
 -- which of a turn's two messages
 abbrev pub part_field : Field → Result Part Why
@@ -55,7 +56,7 @@ abbrev pub some_event : Result Event Why → Result (Option Event) Why
 some_event (Ok said) = Ok (Some said)
 some_event (Err reason) = Err reason
 
--- what the fields of a row of this kind say, in a cluster of so many nodes: an event, or by None that the script ends
+-- what the fields of a row of this kind say, in a cluster with this number of nodes: an event, or by None that the script ends
 abbrev pub fields_say : Kind → ℕ → Row → Result (Option Event) Why
 fields_say kind.Set nodes row = some_event (set_fields nodes row)
 fields_say kind.Del nodes row = some_event (del_fields row)

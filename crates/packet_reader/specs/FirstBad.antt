@@ -40,7 +40,7 @@ BreaksAfter mode shape before row reason =
     ⊎ (((events : List Event) × SayEvents mode shape before events × IsPhaseTooMany mode shape events row × (reason ≡ why.TooManyPhases))
     ⊎ ((events : List Event) × IsScript mode shape before events × (reason ≡ why.AfterEnd)))
 
--- so the bad row stands at this place among the rows after `begin`, which stands in the row of this number
+-- so the bad row stands there among the rows after `begin`, which stands in the row of this number
 pub record IsBadAfter (mode : Mode) (shape : Size) (begin_row : ℕ) (rest : List Row) (bad : BadRow) : Type 0 where
   pub before : List Row
   pub row : Row

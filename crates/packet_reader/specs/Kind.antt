@@ -3,7 +3,7 @@ use Rattle.std.specs.Prelude.{ℕ, if◌then◌else◌, codes, Result, Ok, Err}
 use Rattle.flow_types.specs.declared.why.Why.{Why}
 use Rattle.flow_types.specs.declared.why.Why.TheVariants as why
 use Rattle.csv_rows.specs.Rows.{Row}
-use Rattle.flow_reader.specs.Fields.{is_kind}
+use Rattle.row_fields.specs.Fields.{is_kind}
 use Rattle.packet_reader.specs.declared.event.Event.{Event}
 use Rattle.packet_reader.specs.declared.event.Event.TheVariants as event
 use Rattle.packet_reader.specs.declared.kind.Kind.{Kind}

@@ -3,8 +3,8 @@ ghost use Rattle.csv_rows.specs.Rows.{fields_of};
 ghost use Rattle.packet_reader.specs.Kind.{kind_of, width};
 
 use csv_rows::ByteRecord;
-use flow_reader::is_kind;
 use flow_types::Why;
+use row_fields::is_kind;
 
 /// The kinds of rows after `begin`.
 #[derive(Clone, Copy, Debug, PartialEq, Eq)]

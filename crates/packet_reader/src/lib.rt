@@ -16,7 +16,7 @@ mod row;
 mod rows;
 
 pub use event::{Event, Part};
-pub use law::first_bad_row_law;
+pub use law::{first_bad_row_law, scripts_are_formed};
 pub use mode::Mode;
 pub use rows::{read_script, read_script_from};
 

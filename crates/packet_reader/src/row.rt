@@ -1,4 +1,5 @@
 ghost use Rattle.std.specs.Prelude.{◌≡◌, ◌≤◌, IfOk, IfSome};
+ghost use Rattle.flow_types.specs.Limits.{most_turns};
 ghost use Rattle.csv_rows.specs.Rows.{fields_of};
 ghost use Rattle.packet_reader.specs.Fields.{carry_fields, del_fields, fields_say, packet_fields, part_field, set_fields, turn_field};
 ghost use Rattle.packet_reader.specs.Form.{IsFormed, IsOfKind};
@@ -8,8 +9,8 @@ use crate::event::{Event, Part};
 use crate::kind::Kind;
 use crate::mode::Mode;
 use csv_rows::{ByteRecord, field};
-use flow_reader::{flow_of, key_at, node_field, number_field};
-use flow_types::{Shape, Why};
+use flow_types::{MOST_TURNS, Shape, Why};
+use row_fields::{flow_of, key_at, node_field, number_field};
 
 /// What a row says by itself: an event, or by `None` that the script ends.
 #[tactic(auto, using(crate::proofs::Scripts::formed_of), unfolding(crate::specs::Script::script_row))]
@@ -86,9 +87,9 @@ fn carry_fields(row: &ByteRecord, shape: Shape) -> Result<Event, Why>
 fn turn_field(text: &[u8]) -> Result<u32, Why>
     ensures value { result ≡ turn_field text.now }
     ensures least { IfOk result (λ turn. 1 ≤ turn) }
-    ensures most { IfOk result (λ turn. turn ≤ 65535) }
+    ensures most { IfOk result (λ turn. turn ≤ most_turns) }
 {
-    let turn = number_field(text, 65535)?;
+    let turn = number_field(text, u64::from(MOST_TURNS))?;
     if turn == 0 {
         return Err(Why::Number);
     }

@@ -3,7 +3,7 @@ ghost use Rattle.out_of_memory.specs.Answer.{Answers};
 ghost use Rattle.flow_types.specs.Input.{most_octets};
 ghost use Rattle.csv_rows.specs.Reading.{IsReading, rows_left};
 ghost use Rattle.csv_rows.specs.Rows.{rows};
-ghost use Rattle.flow_reader.specs.Opening.{bad_row, named_row};
+ghost use Rattle.row_fields.specs.Refused.{named_row};
 ghost use Rattle.packet_reader.specs.FirstBad.{IsScript};
 ghost use Rattle.packet_reader.specs.Form.{HasFewPhases, IsFormed};
 ghost use Rattle.packet_reader.specs.Script.{events_of, script_of};
@@ -12,9 +12,9 @@ use crate::event::Event;
 use crate::mode::Mode;
 use crate::progress::Progress;
 use csv_rows::{ByteRecord, RowReader};
-use flow_reader::RowRefused;
-use flow_types::{BadRow, Shape, Why};
+use flow_types::{Shape, Why};
 use out_of_memory::OutOfMemory;
+use row_fields::{RowRefused, refusal};
 use std::alloc::Global;
 
 /// Reads the rows of the bytes after `begin`, which stands in the row of this number, to the end of the input: rows of
@@ -80,7 +80,7 @@ pub fn read_script_from(
     }
 }
 
-/// Takes so many rows from the reader.
+/// Takes the next `count` rows from the reader.
 #[tactic(auto, using(crate::proofs::Scripts::row_skipped))]
 fn skip_rows(alloc: Global, reader: &mut RowReader<'_>, count: u32) -> Result<(), OutOfMemory>
     requires reading { IsReading reader.old }
@@ -93,10 +93,4 @@ fn skip_rows(alloc: Global, reader: &mut RowReader<'_>, count: u32) -> Result<()
         reader.next_row(&mut row)?;
     }
     Ok(())
-}
-
-fn refusal(row: u32, why: Why) -> RowRefused
-    ensures { result ≡ RowRefused.Bad (bad_row row why) }
-{
-    RowRefused::Bad(BadRow { row, why })
 }

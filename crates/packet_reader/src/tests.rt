@@ -1,4 +1,6 @@
-use crate::{Event, Mode, Part, first_bad_row_law, read_script, read_script_from};
+use crate::{
+    Event, Mode, Part, first_bad_row_law, read_script, read_script_from, scripts_are_formed,
+};
 use csv_rows::RowReader;
 use flow_reader::{MOST_OCTETS, RowRefused, read_opening, read_opening_from};
 use flow_types::{BadRow, Flow, FlowKey, Record, Why};
@@ -218,7 +220,7 @@ fn refuses_in_storms_mode(rt: HostRuntime) -> Result<(), Fail> {
     Ok(())
 }
 
-// The number of events of so many `sync` rows and then these rows, or the bad row.
+// The number of events that `syncs` rows `sync` and then these rows say, or the bad row.
 fn read_after_syncs(
     alloc: Global,
     syncs: usize,
@@ -295,6 +297,7 @@ fn counts_a_storms_phases(rt: HostRuntime) -> Result<(), Fail> {
 #[test]
 fn reads_each_kind_of_row(rt: HostRuntime) -> Result<(), Fail> {
     first_bad_row_law();
+    scripts_are_formed();
     let rows =
         b"set,10.0.0.1,192.0.2.7,1000,443,6,2,77,192.168.0.9\ndel,10.0.0.1,192.0.2.7,1000,443,6\npacket,3,10.0.0.1,192.0.2.7,1000,443,6\ncarry,0,3,1,table\ncarry,3,0,65535,fib\nsync\nend\n";
     let wanted = [

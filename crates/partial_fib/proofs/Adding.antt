@@ -7,7 +7,7 @@ use prog.Atomic.{either}
 use Rattle.logbook.specs.Pages.{Cell, cell, keeps, no_nib, step, Moves, Goes}
 use Rattle.delta_codec.specs.declared.message.FibMessage.{FibMessage}
 use Rattle.partial_fib.specs.History.{IsCounted, IsAdded}
-use Rattle.partial_fib.proofs.Prefixes.{prefix_whole}
+use Rattle.flow_types.proofs.Prefixes.{prefix_whole}
 
 abbrev pub seen_by_clients : List FibMessage → List FibMessage
 seen_by_clients turns = []

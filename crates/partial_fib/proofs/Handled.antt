@@ -8,7 +8,7 @@ use Rattle.std.proofs.lemmas.List.Elements.{All-head, All-tail}
 use Rattle.flow_types.specs.declared.key.FlowKey.{FlowKey}
 use Rattle.flow_types.specs.declared.record.Flow.{Flow}
 use Rattle.flow_types.specs.declared.record.Record.{Record}
-use Rattle.flow_types.specs.Key.{key_of, number}
+use Rattle.flow_types.specs.Key.{key_of, number, IsKeyValue}
 use Rattle.flow_types.specs.Map.{AreDistinct, flow_at, is_of}
 use Rattle.flow_types.specs.Size.{Size}
 use Rattle.flow_types.proofs.KeyedFlows.{distinct-head, distinct-tail}
@@ -16,9 +16,9 @@ use Rattle.hash_family.specs.Hash.{place}
 use Rattle.group_search.specs.Home.{Home, home, is_home, opening}
 use Rattle.group_history.specs.History.{changed, now}
 use Rattle.group_history.specs.Journal.{concerning}
-use Rattle.delta_codec.specs.Values.{IsKeyValue}
-use Rattle.partial_fib.specs.Fib.{handled_record, is_handled_of, record_after}
-use Rattle.partial_fib.proofs.KeyNumbers.{key_is, number-key_of}
+use Rattle.group_history.specs.Routes.{handled_record}
+use Rattle.partial_fib.specs.Fib.{is_handled_of, record_after}
+use Rattle.flow_types.proofs.KeyNumbers.{key_is, number-key_of}
 
 -- the flow is the one of this number that counts
 abbrev pub counts_at : (Flow → Bool) → (key : ℕ) → Flow → Bool

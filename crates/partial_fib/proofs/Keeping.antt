@@ -11,11 +11,11 @@ use Rattle.partial_fib.specs.declared.sharing.shown.Shown.{Shown}
 use Rattle.partial_fib.specs.declared.sharing.turn.Turn.{Turn}
 use Rattle.partial_fib.specs.Ends.{IsLater, ReaderState, shared_after}
 use Rattle.partial_fib.specs.Fib.{with_turn}
-use Rattle.partial_fib.specs.Message.{FibMessageFits}
+use Rattle.delta_codec.specs.Messages.{FibMessageFits}
 use Rattle.partial_fib.specs.Rule.{IsBefore, IsKept, IsRight, KnowsBefore, Sees, opening_of, shown_after}
 use Rattle.partial_fib.specs.History.{shared_fib}
 use Rattle.partial_fib.specs.Store.{FibStore, IsUnturned, IsWhole, state_of}
-use Rattle.partial_fib.proofs.Prefixes.{prefix_self, prefix_trans}
+use Rattle.flow_types.proofs.Prefixes.{prefix_self, prefix_trans}
 use Rattle.partial_fib.proofs.TurnSteps.{after_one_more, turn_of_store, whole_with}
 
 pub before_self : (x : Shown) → IsBefore x x

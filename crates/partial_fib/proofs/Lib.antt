@@ -6,6 +6,5 @@ pub mod Handled
 pub mod MapAnswers
 pub mod Own
 pub mod TurnSteps
-pub mod Prefixes
 pub mod Adding
 pub mod Keeping

@@ -6,11 +6,10 @@ use Rattle.std.proofs.lemmas.Bool.{cond-true, cond-false}
 use Rattle.std.proofs.lemmas.List.Elements.{All-filter}
 use Rattle.std.proofs.lemmas.List.Kept.{AllPairs-filter}
 use Rattle.flow_types.specs.declared.record.Flow.{Flow}
-use Rattle.flow_types.specs.Key.{number}
+use Rattle.flow_types.specs.Key.{number, IsKeyValue}
 use Rattle.flow_types.specs.Map.{AreDistinct}
 use Rattle.flow_types.specs.Size.{Size}
 use Rattle.group_history.specs.Journal.{change_count}
-use Rattle.delta_codec.specs.Values.{IsKeyValue}
 use Rattle.partial_fib.specs.Fib.{fib_after, is_handled_of, record_after}
 use Rattle.partial_fib.proofs.Handled.{counts_at, records_of_opening}
 

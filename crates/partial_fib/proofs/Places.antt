@@ -3,15 +3,16 @@ use Rattle.std.proofs.Common.{ℕ, zero, suc, ◌≡◌, ◌∙◌, ◌+◌, ◌
 use Rattle.std.specs.Prelude.{nat_lt, slice_index_or}
 use Rattle.std.proofs.lemmas.Bool.{and_parts, and_from, eq-eqb, eqb-true, lt-ltb, ltb-true, true≢false}
 use Rattle.std.proofs.lemmas.List.{get_or-set_other, get_or-set_same, get_or_default}
+use Rattle.block_layout.specs.Limits.{group_count}
 use Rattle.flow_types.specs.declared.key.FlowKey.{FlowKey}
 use Rattle.flow_types.specs.declared.record.Record.{Record}
 use Rattle.flow_types.specs.Size.{Size}
 use Rattle.group_search.specs.Home.{Home, is_home}
-use Rattle.group_history.specs.Journal.{change_count, concerning}
+use Rattle.group_history.specs.Journal.{change_count, concerning, with_next_version}
 use Rattle.delta_codec.specs.declared.message.FibMessage.{FibMessage}
-use Rattle.partial_fib.specs.Fib.{group_of_message, with_op, with_turn, with_version}
-use Rattle.partial_fib.specs.Message.{FibMessageFits}
-use Rattle.partial_fib.specs.Store.{FibStore, KeepsVersions, is_group_of, record_among, slot_of, state_of, version_in}
+use Rattle.partial_fib.specs.Fib.{group_of_message, with_op, with_turn}
+use Rattle.delta_codec.specs.Messages.{FibMessageFits}
+use Rattle.partial_fib.specs.Store.{FibStore, KeepsVersions, is_group_of, record_among, slot_count, slot_of, state_of, version_in}
 
 -- two blocks of one owner at one place among its blocks are one block
 same_block : (nodes a b : ℕ) → 1 ≤ nodes → a % nodes ≡ b % nodes → a / nodes ≡ b / nodes → a ≡ b
@@ -20,12 +21,12 @@ same_block nodes a b some rest place =
     omega arith
 
 module _ (size : Size) (owner : ℕ) (some : 1 ≤ size.nodes) where
-  pub owned_of : (at : Home) → is_group_of size owner at ≡ true → (at.block % size.nodes ≡ owner) × (at.group < 64)
+  pub owned_of : (at : Home) → is_group_of size owner at ≡ true → (at.block % size.nodes ≡ owner) × (at.group < group_count)
   owned_of at is =
       let rest = (and_parts _ _ (and_parts (nat_lt at.block size.blocks) _ is).1) in
       (eqb-true _ _ rest.0, ltb-true _ _ rest.1)
 
-  pub is_group : (at : Home) → at.block < size.blocks → at.block % size.nodes ≡ owner → at.group < 64 → is_group_of size owner at ≡ true
+  pub is_group : (at : Home) → at.block < size.blocks → at.block % size.nodes ≡ owner → at.group < group_count → is_group_of size owner at ≡ true
   is_group at within owned low = and_from _ _ (lt-ltb _ _ within) (and_from _ _ (eq-eqb _ _ owned) (lt-ltb _ _ low))
 
   -- groups of the owner at one place are one group
@@ -58,7 +59,7 @@ module _ (size : Size) (owner : ℕ) (some : 1 ≤ size.nodes) where
     at_home asked false here = beside asked _ here refl
 
     -- the group has one version more, and each other what it had
-    one_more : version_in size owner (set counts (slot_of size.nodes changed) next) ≡ with_version (version_in size owner counts) changed
+    one_more : version_in size owner (set counts (slot_of size.nodes changed) next) ≡ with_next_version (version_in size owner counts) changed
     one_more = λ i asked. at_home asked (is_home changed asked) refl i
 
 -- a group of the owner has at most as many versions as turns were taken
@@ -77,7 +78,7 @@ pub record IsCount (fib : FibStore) (at : Home) (place count : ℕ) : Type 0 whe
 -- what is read at the place of a message's group is the group's count
 pub count_of_message : (fib now : FibStore) (message : FibMessage) (place count : ℕ) → fib ≡ now → FibMessageFits now.size message → message.owner ≡ fib.owner
     → KeepsVersions fib.size fib.owner fib.taken fib.counts → place ≡ slot_of fib.size.nodes (group_of_message message)
-    → place < (fib.size.blocks - 1) / fib.size.nodes * 64 + 64 → count ≡ get_or fib.counts place count
+    → place < slot_count fib.size → count ≡ get_or fib.counts place count
     → IsCount fib (group_of_message message) place count
 count_of_message fib now message place count is fits owner_is keeps place_is within read =
     let some : 1 ≤ fib.size.nodes = omega (arith, fits.owner_is_node, ap (λ (f : FibStore). f.size.nodes) is) in
@@ -94,7 +95,7 @@ count_of_message fib now message place count is fits owner_is keeps place_is wit
 
 -- with one more there its group has one version more, and each other what it had
 pub one_more_at : (fib : FibStore) (at : Home) (place count : ℕ) → IsCount fib at place count
-    → version_in fib.size fib.owner (set fib.counts place (count + 1)) ≡ with_version (version_in fib.size fib.owner fib.counts) at
+    → version_in fib.size fib.owner (set fib.counts place (count + 1)) ≡ with_next_version (version_in fib.size fib.owner fib.counts) at
 one_more_at fib at place count is =
     ap (λ (p : ℕ). version_in fib.size fib.owner (set fib.counts p (count + 1))) is.place_is
     ∙ one_more fib.size fib.owner is.some_node fib.counts at is.own is.there (count + 1) (ap (λ (n : ℕ). n + 1) is.count_is)
@@ -121,7 +122,7 @@ no_versions size owner n counts are = λ i at.
 -- a FIB that has a turn's record and version has taken the turn
 pub same_turn : (fib : FibStore) (message : FibMessage) (entries : List (FlowKey × Record)) (counts : List ℕ)
     → record_among entries ≡ with_op (record_among fib.entries) message.op
-    → version_in fib.size fib.owner counts ≡ with_version (version_in fib.size fib.owner fib.counts) (group_of_message message)
+    → version_in fib.size fib.owner counts ≡ with_next_version (version_in fib.size fib.owner fib.counts) (group_of_message message)
     → state_of (record fib { entries = entries; counts = counts; taken = fib.taken + 1 }) ≡ with_turn (state_of fib) message
 same_turn fib message entries counts records versions = λ i. record {
   size = fib.size;

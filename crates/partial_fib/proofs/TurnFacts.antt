@@ -16,10 +16,12 @@ use Rattle.group_history.specs.Change.{changed_group, concerns, flow_to}
 use Rattle.group_history.specs.History.{now}
 use Rattle.group_history.specs.Journal.{change_count}
 use Rattle.group_history.proofs.Versions.{count_other, count_own, flow_at-step, now_other, now_own}
-use Rattle.partial_fib.specs.Op.{op_for, op_of_loss, op_of_move, was_handled}
-use Rattle.partial_fib.specs.Fib.{FibState, fib_after, handled_record, record_after, with_op, with_turn}
-use Rattle.partial_fib.specs.Message.{IsJournalOf, IsOwnChange, message_after, messages_after}
-use Rattle.partial_fib.proofs.KeyNumbers.{key_of-number, number-key_of}
+use Rattle.delta_codec.specs.Op.{op_for, op_of_loss, op_of_move, was_handled}
+use Rattle.group_history.specs.Routes.{handled_record}
+use Rattle.partial_fib.specs.Fib.{FibState, fib_after, record_after, with_op, with_turn}
+use Rattle.delta_codec.specs.Messages.{message_after, messages_after}
+use Rattle.delta_codec.specs.Journals.{IsJournalOf, IsOwnChange}
+use Rattle.flow_types.proofs.KeyNumbers.{key_of-number, number-key_of}
 
 -- ---- what a change means for the records of a node
 

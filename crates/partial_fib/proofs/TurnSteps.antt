@@ -5,18 +5,19 @@ use Rattle.std.proofs.Math.Nat.{div-mul-le_self}
 use Rattle.std.proofs.lemmas.Nat.{le-div}
 use Rattle.std.proofs.lemmas.List.{length-set}
 use Rattle.std.proofs.lemmas.List.Sums.{fold-append}
+use Rattle.block_layout.specs.Limits.{group_count}
 use Rattle.group_search.specs.Home.{Home, is_home}
 use Rattle.delta_codec.specs.declared.message.FibMessage.{FibMessage}
 use Rattle.delta_codec.specs.Values.{IsOperation}
 use Rattle.partial_fib.specs.Fib.{FibState, group_of_message, with_turn}
-use Rattle.partial_fib.specs.Message.{FibMessageFits}
+use Rattle.delta_codec.specs.Messages.{FibMessageFits}
 use Rattle.partial_fib.specs.Store.{FibStore, IsUnturned, IsWhole, counts_with, slot_of, state_of, store_with}
 use Rattle.partial_fib.specs.Turns.{after_turns, turn_count}
 use Rattle.partial_fib.proofs.EntrySteps.{once_with, records_with}
 use Rattle.partial_fib.proofs.Places.{IsCount, is_group, one_more_at, same_turn}
 
 -- the place of a block's groups lies before the end of those of the last block
-in_places : (nodes blocks : ℕ) (at : Home) → 1 ≤ nodes → at.block < blocks → at.group < 64 → slot_of nodes at < (blocks - 1) / nodes * 64 + 64
+in_places : (nodes blocks : ℕ) (at : Home) → 1 ≤ nodes → at.block < blocks → at.group < group_count → slot_of nodes at < (blocks - 1) / nodes * group_count + group_count
 in_places nodes blocks at some within low =
     let less : at.block / nodes ≤ (blocks - 1) / nodes = le-div (at.block / nodes) (blocks - 1) nodes some (omega (arith, div-mul-le_self at.block nodes)) in
     omega (arith, less)

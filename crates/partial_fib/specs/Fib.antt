@@ -9,10 +9,11 @@ use Rattle.hash_family.specs.Hash.{place}
 use Rattle.group_search.specs.Home.{Home, home, is_home, opening}
 use Rattle.group_history.specs.declared.change.Change.{Change}
 use Rattle.group_history.specs.History.{now}
-use Rattle.group_history.specs.Journal.{change_count}
+use Rattle.group_history.specs.Journal.{change_count, with_next_version}
 use Rattle.delta_codec.specs.declared.message.FibOp.{FibOp}
 use Rattle.delta_codec.specs.declared.message.FibOp.TheVariants.{Nothing, Put, Drop}
 use Rattle.delta_codec.specs.declared.message.FibMessage.{FibMessage}
+use Rattle.group_history.specs.Routes.{handled_record}
 
 -- what a FIB says: the cluster's size, its node, its owner, the record of each key, by the key's number, the version of each
 -- group, and how many of the owner's turns it has taken
@@ -40,10 +41,6 @@ with_op records Nothing = records
 with_op records (Put key info) = with_record records (number key) (Some info)
 with_op records (Drop key) = with_record records (number key) None
 
--- the versions with the next one of this group
-abbrev pub with_version : (Home → ℕ) → (changed : Home) → Home → ℕ
-with_version versions changed asked = if is_home changed asked then versions asked + 1 else versions asked
-
 -- the group that a message is of
 abbrev pub group_of_message : FibMessage → Home
 group_of_message message = record { block = message.block; group = message.group }
@@ -55,16 +52,11 @@ with_turn fib message = record {
   node = fib.node;
   owner = fib.owner;
   records = with_op fib.records message.op;
-  versions = with_version fib.versions (group_of_message message);
+  versions = with_next_version fib.versions (group_of_message message);
   taken = fib.taken + 1;
 }
 
 -- ---- after turns
-
--- the record that a node has of what a map has at a key: that of a flow which it handles
-abbrev pub handled_record : (node : ℕ) → Option Flow → Option Record
-handled_record node None = None
-handled_record node (Some flow) = if flow.node == node then Some flow.info else None
 
 -- the record that a node has of a key with this home, if its block is the owner's, by the map of its group after these changes
 abbrev pub record_in_group : Size → (node owner : ℕ) → List Flow → List Change → (key : ℕ) → Home → Option Record

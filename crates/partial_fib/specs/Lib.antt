@@ -1,9 +1,8 @@
-pub mod Op
 pub mod Fib
-pub mod Message
 pub mod Store
 pub mod Answering
 pub mod Turns
 pub mod Ends
 pub mod History
 pub mod Rule
+pub mod Laws

@@ -4,6 +4,7 @@ use Rattle.std.specs.Prelude.{ℕ, ◌≡◌, ◌==◌, ◌&&◌, ◌+◌, ◌-�
 use Rattle.std.specs.List.{IsDistinct}
 use Rattle.std.specs.Map.{keys_of, lookup}
 use Rattle.indexmap.specs.IndexMap.{insert_entry, swap_remove_entry}
+use Rattle.block_layout.specs.Limits.{group_count}
 use Rattle.flow_types.specs.declared.key.FlowKey.{FlowKey}
 use Rattle.flow_types.specs.declared.record.Record.{Record}
 use Rattle.flow_types.specs.Key.{key_of, same_key}
@@ -29,19 +30,23 @@ record_among entries key = lookup (same_key (key_of key)) entries
 
 -- the group is one of a block of the owner
 abbrev pub is_group_of : Size → (owner : ℕ) → Home → Bool
-is_group_of size owner at = nat_lt at.block size.blocks && ((at.block % size.nodes == owner) && nat_lt at.group 64)
+is_group_of size owner at = nat_lt at.block size.blocks && ((at.block % size.nodes == owner) && nat_lt at.group group_count)
 
 -- the place of a group's version: the blocks are dealt to the owners in turn
 abbrev pub slot_of : (nodes : ℕ) → Home → ℕ
-slot_of nodes at = at.block / nodes * 64 + at.group
+slot_of nodes at = at.block / nodes * group_count + at.group
 
 -- the version of a group, and 0 for a group that isn't the owner's
 abbrev pub version_in : Size → (owner : ℕ) → (counts : List ℕ) → Home → ℕ
 version_in size owner counts at = if is_group_of size owner at then slice_index_or counts (slot_of size.nodes at) 0 else 0
 
+-- how many places the groups of an owner's blocks take
+abbrev pub slot_count : Size → ℕ
+slot_count size = (size.blocks - 1) / size.nodes * group_count + group_count
+
 -- each group of the owner has a place, and at most as many versions as turns were taken
 pub record KeepsVersions (size : Size) (owner taken : ℕ) (counts : List ℕ) : Type 0 where
-  pub places : length counts ≡ (size.blocks - 1) / size.nodes * 64 + 64
+  pub places : length counts ≡ slot_count size
   pub few : (at : Home) → version_in size owner counts at ≤ taken
 
 -- what a FIB says by what it keeps
@@ -83,7 +88,7 @@ HasEachKeyOnce entries = IsDistinct same_key (keys_of entries)
 -- and each group of the owner has a place
 pub record IsWhole (fib : FibStore) : Type 0 where
   pub once : HasEachKeyOnce fib.entries
-  pub places : length fib.counts ≡ (fib.size.blocks - 1) / fib.size.nodes * 64 + 64
+  pub places : length fib.counts ≡ slot_count fib.size
 
 -- it is whole, and has taken no turn
 pub record IsUnturned (fib : FibStore) : Type 0 where

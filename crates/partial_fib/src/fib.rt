@@ -1,13 +1,15 @@
 ghost use Rattle.std.specs.Prelude.{◌≡◌, ◌≢◌, ◌↔◌, ℕ, ◌+◌, ◌<◌, ◌≤◌, ◌%◌, [], length, OnOk, OnErr, IfOk, IsOk, IsErr, IsErrOf};
+ghost use Rattle.block_layout.specs.Limits.{group_count};
 ghost use Rattle.flow_types.specs.Key.{number};
 ghost use Rattle.flow_types.specs.Map.{AreDistinct};
 ghost use Rattle.group_search.specs.Home.{Home};
-ghost use Rattle.delta_codec.specs.Values.{IsKeyValue};
+ghost use Rattle.flow_types.specs.Key.{IsKeyValue};
 ghost use Rattle.partial_fib.specs.declared.refused.FibRefused.TheVariants.{Foreign, Repeat, Early};
 ghost use Rattle.partial_fib.specs.declared.refused.FibRefused.TheVariants as causes;
 ghost use Rattle.partial_fib.specs.Fib.{fib_after, is_handled_of, with_turn};
-ghost use Rattle.partial_fib.specs.Message.{FibMessageFits, IsNextTurn};
-ghost use Rattle.partial_fib.specs.Op.{IsPut};
+ghost use Rattle.delta_codec.specs.Messages.{FibMessageFits, IsNextTurn};
+ghost use Rattle.delta_codec.specs.Op.{IsPut};
+ghost use Rattle.delta_codec.specs.Turns.{IsEarly, IsForeign, IsRepeat};
 ghost use Rattle.partial_fib.specs.Store.{IsWhole, record_among, state_of, store_with, version_in};
 
 use crate::records::Records;
@@ -77,12 +79,9 @@ impl Fib {
     pub fn apply(&mut self, message: &FibMessage) -> Result<(), FibRefused>
         requires { FibMessageFits self.old.size message.now }
         ensures taken { OnOk result (state_of self.new ≡ with_turn (state_of self.old) message.now) }
-        ensures foreign { (owner : ℕ) → IsErrOf result (Foreign owner) ↔
-            ((message.now.owner ≢ self.old.owner) × (owner ≡ message.now.owner)) }
-        ensures repeat { (have : ℕ) → IsErrOf result (Repeat have) ↔
-            ((message.now.owner ≡ self.old.owner) × (message.now.turn ≤ self.old.taken) × (have ≡ self.old.taken)) }
-        ensures early { (have : ℕ) → IsErrOf result (Early have) ↔
-            ((message.now.owner ≡ self.old.owner) × (self.old.taken + 1 < message.now.turn) × (have ≡ self.old.taken)) }
+        ensures foreign { (owner : ℕ) → IsErrOf result (Foreign owner) ↔ IsForeign self.old.owner message.now.owner owner }
+        ensures repeat { (have : ℕ) → IsErrOf result (Repeat have) ↔ IsRepeat self.old.owner self.old.taken message.now.owner message.now.turn have }
+        ensures early { (have : ℕ) → IsErrOf result (Early have) ↔ IsEarly self.old.owner self.old.taken message.now.owner message.now.turn have }
         // Only a message that puts a record can lack memory.
         ensures memory { IsErrOf result causes.OutOfMemory → IsPut message.now.op }
         ensures refused { OnErr result (self.new ≡ self.old) }
@@ -98,12 +97,9 @@ impl Fib {
     pub(crate) fn awaits(&self, message: &FibMessage) -> Result<(), FibRefused>
         requires { FibMessageFits self.now.size message.now }
         ensures next { IsOk result ↔ IsNextTurn self.now.owner self.now.taken message.now }
-        ensures foreign { (owner : ℕ) → IsErrOf result (Foreign owner) ↔
-            ((message.now.owner ≢ self.now.owner) × (owner ≡ message.now.owner)) }
-        ensures repeat { (have : ℕ) → IsErrOf result (Repeat have) ↔
-            ((message.now.owner ≡ self.now.owner) × (message.now.turn ≤ self.now.taken) × (have ≡ self.now.taken)) }
-        ensures early { (have : ℕ) → IsErrOf result (Early have) ↔
-            ((message.now.owner ≡ self.now.owner) × (self.now.taken + 1 < message.now.turn) × (have ≡ self.now.taken)) }
+        ensures foreign { (owner : ℕ) → IsErrOf result (Foreign owner) ↔ IsForeign self.now.owner message.now.owner owner }
+        ensures repeat { (have : ℕ) → IsErrOf result (Repeat have) ↔ IsRepeat self.now.owner self.now.taken message.now.owner message.now.turn have }
+        ensures early { (have : ℕ) → IsErrOf result (Early have) ↔ IsEarly self.now.owner self.now.taken message.now.owner message.now.turn have }
         ensures memory { ¬ IsErrOf result causes.OutOfMemory }
     {
         if message.owner != self.owner {
@@ -143,7 +139,7 @@ impl Fib {
     pub fn find(&self, block: u16, group: u8, key: FlowKey) -> FibSeen
         requires within { block < self.now.size.blocks }
         requires owned { block % self.now.size.nodes ≡ self.now.owner }
-        requires in_block { group < 64 }
+        requires in_block { group < group_count }
         ensures version { result.version ≡ (state_of self.now).versions (record { block = block; group = group }) }
         ensures answer { result.answer ≡ (state_of self.now).records (number key) }
     {

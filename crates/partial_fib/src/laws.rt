@@ -1,7 +1,7 @@
 //! What the definitions mean together. Each law is a function that does nothing, whose contract says it.
 
 ghost use Rattle.partial_fib.specs.Answering.{RecordsAnswer};
-ghost use Rattle.partial_fib.specs.Message.{TurnsGoOn, TurnsMakeFib};
+ghost use Rattle.partial_fib.specs.Laws.{TurnsGoOn, TurnsMakeFib};
 
 /// By what a change means for a node, the node's FIB before the change becomes its FIB after it.
 pub fn a_turn_goes_on()

@@ -2,7 +2,7 @@ ghost use Rattle.std.specs.Prelude.{◌≡◌, [], length, IsErr, OnOk, OnErr, S
 ghost use Rattle.indexmap.specs.IndexMap.{insert_entry, swap_remove_entry};
 ghost use Rattle.flow_types.specs.Key.{number, same_key};
 ghost use Rattle.partial_fib.specs.Fib.{with_op, with_record};
-ghost use Rattle.partial_fib.specs.Op.{IsPut};
+ghost use Rattle.delta_codec.specs.Op.{IsPut};
 ghost use Rattle.partial_fib.specs.Store.{HasEachKeyOnce, entries_with, record_among};
 
 use delta_codec::FibOp;

@@ -1,5 +1,5 @@
 ghost use Rattle.std.specs.Prelude.{◌≡◌, ◌<◌, ◌%◌};
-ghost use Rattle.partial_fib.specs.Message.{FibMessageFits};
+ghost use Rattle.delta_codec.specs.Messages.{FibMessageFits};
 
 use crate::{Fib, FibRefused, FibSeen, laws};
 use delta_codec::{FibMessage, FibOp};

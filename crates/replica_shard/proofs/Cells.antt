@@ -10,7 +10,7 @@ use Rattle.hash_family.specs.declared.bucket.Place.{Place}
 use Rattle.group_search.specs.declared.published.Publication.{Publication}
 use Rattle.group_search.specs.declared.record.GroupRecord.{GroupRecord}
 use Rattle.group_search.specs.declared.record.GroupRecord.TheVariants.{Served}
-use Rattle.group_search.specs.Decoding.{decode}
+use Rattle.group_search.specs.Decoding.{decode, decoded}
 use Rattle.group_search.specs.Home.{Home, is_home}
 use Rattle.group_search.specs.Image.{Image}
 use Rattle.group_search.specs.Published.{count, opening_record, published_group, record_at, records_of}
@@ -18,7 +18,6 @@ use Rattle.group_cell.specs.Opening.{HaveAllGroups, Opened}
 use Rattle.group_cell.specs.Rule.{latest}
 use Rattle.group_cell.specs.Seats.{node_at_version}
 use Rattle.replica_shard.specs.Owners.{AreOwnersCells, cell_of, in_cluster}
-use Rattle.replica_shard.specs.Routed.{decoded}
 use Rattle.replica_shard.specs.Shard.{home_in_state, route_in_state}
 use Rattle.replica_shard.specs.Store.{ShardStore, choices_shown, image_in, last_or, record_shown, shard_state_of}
 use Rattle.replica_shard.proofs.OwnedBlocks.{its_place, one_place, owned_block, place_within}

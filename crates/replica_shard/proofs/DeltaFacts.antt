@@ -7,7 +7,7 @@ use Rattle.flow_types.specs.Size.{Size}
 use Rattle.group_history.specs.declared.change.Change.{Change}
 use Rattle.delta_codec.specs.declared.message.TableMessage.{TableMessage}
 use Rattle.delta_codec.specs.Deltas.{Delta, delta_of, delta_told, deltas, deltas_after}
-use Rattle.replica_shard.specs.Message.{IsTableMessage, IsTableMessageOf}
+use Rattle.delta_codec.specs.Messages.{IsTableMessage, IsTableMessageOf}
 use Rattle.replica_shard.specs.Owners.{publication_of}
 use Rattle.replica_shard.specs.Turns.{AreTableMessagesOf}
 

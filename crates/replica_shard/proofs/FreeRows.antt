@@ -3,6 +3,7 @@ use Rattle.std.proofs.Common.{ℕ, zero, suc, ◌≡◌, ◌∙◌, ◌+◌, ◌
 use Rattle.std.specs.Prelude.{◌==◌, filter}
 use Rattle.std.specs.List.{range_with_len}
 use Rattle.flow_types.specs.Size.{Size}
+use Rattle.group_search.specs.Build.{rows_left}
 use Rattle.group_search.specs.declared.published.Publication.{Publication}
 use Rattle.group_search.specs.Canon.{rows_in}
 use Rattle.group_cell.specs.Opening.{HaveAllGroups, Opened}
@@ -11,7 +12,7 @@ use Rattle.group_cell.specs.Seats.{rows_beside, the_group}
 use Rattle.group_cell.specs.Seats as cells_sum
 use Rattle.group_cell.proofs.Room.{sum_beside-same}
 use Rattle.replica_shard.specs.Owners.{AreOwnersCells, cell_of}
-use Rattle.replica_shard.specs.Shard.{free_rows, free_rows_beside, rows_taken_by}
+use Rattle.replica_shard.specs.Shard.{free_rows, rows_taken_by}
 use Rattle.replica_shard.specs.Store.{shard_state_of}
 use Rattle.replica_shard.proofs.Cells.{latest_is, store}
 use Rattle.replica_shard.proofs.Sums.{is_not, sum-cons, sum_beside}
@@ -59,7 +60,7 @@ module _ (size : Size) (owner : ℕ) (choices : List (List ℕ)) (cells : Opened
   rows_of other = rows_taken_by ((shard_state_of (store size owner choices cells are full ps)).records (record { block = block; group = other }))
 
   free_are : free_rows (shard_state_of (store size owner choices cells are full ps)) block group ≡ 64 - sum_beside rows_of group 0 64
-  unfolding free_rows_beside rows_of
+  unfolding rows_left rows_of
   free_are = refl
 
   rows_are : rows_beside cells ps (cell_of size.nodes (record { block = block; group = group })) ≡ sum_beside rows_of group 0 64

@@ -5,8 +5,6 @@ pub mod Dealt
 pub mod Cells
 pub mod FreeRows
 pub mod Taken
-pub mod Built
-pub mod Below
 pub mod Tables
 pub mod Opened
 pub mod Room

@@ -15,13 +15,13 @@ use Rattle.group_search.specs.Owned.{IsOwned}
 use Rattle.group_search.specs.Records.{record_of}
 use Rattle.group_history.specs.declared.change.Change.{Change}
 use Rattle.group_history.specs.Change.{changed_group}
-use Rattle.group_history.specs.History.{changed, now}
+use Rattle.group_history.specs.History.{changed, now, content_after}
 use Rattle.group_history.specs.Journal.{change_count, concerning}
-use Rattle.replica_shard.specs.Routed.{decoded}
-use Rattle.replica_shard.specs.Shard.{content_after, home_in_state, is_owned_block, is_owned_group, route_in_state, shard_after}
+use Rattle.group_search.specs.Decoding.{decoded}
+use Rattle.replica_shard.specs.Shard.{home_in_state, is_owned_block, is_owned_group, route_in_state, shard_after}
 use Rattle.replica_shard.specs.Store.{AreOwnersImages, ShardStore, choices_shown, record_shown, shard_state_of}
-use Rattle.replica_shard.specs.Turns.{IsOfOwner}
-use Rattle.replica_shard.proofs.Built.{block_below, group_below, image_at, no_image}
+use Rattle.delta_codec.specs.Journals.{IsOfOwner}
+use Rattle.delta_codec.proofs.Built.{block_below, group_below, image_at, no_image}
 use Rattle.replica_shard.proofs.OwnedBlocks.{its_place, of_owner, owned_block, place_within}
 
 -- before a change a group has the record of its flows

@@ -11,7 +11,8 @@ use Rattle.delta_codec.specs.declared.message.TableMessage.{TableMessage}
 use Rattle.replica_shard.specs.Owners.{publication_of}
 use Rattle.replica_shard.specs.Shard.{ShardState, shard_after, with_content}
 use Rattle.replica_shard.specs.Store.{ShardStore, shard_state_of}
-use Rattle.replica_shard.specs.Turns.{AreTableMessagesOf, IsAfterTurns, IsOfOwner}
+use Rattle.delta_codec.specs.Journals.{IsOfOwner}
+use Rattle.replica_shard.specs.Turns.{AreTableMessagesOf, IsAfterTurns}
 use Rattle.replica_shard.proofs.DeltaFacts.{tell}
 use Rattle.replica_shard.proofs.Taken.{with_one_more}
 use Rattle.replica_shard.proofs.TurnFacts.{turns_make}

@@ -4,18 +4,18 @@ use Rattle.std.proofs.lemmas.Bool.{eq-eqb}
 use Rattle.flow_types.specs.declared.record.Flow.{Flow}
 use Rattle.flow_types.specs.Size.{Size, value_bits}
 use Rattle.group_search.specs.declared.record.GroupRecord.{GroupRecord}
-use Rattle.group_search.specs.Build.{rows_needed}
+use Rattle.group_search.specs.Build.{rows_needed, rows_left}
 use Rattle.group_search.specs.Canon.{rows_in}
 use Rattle.group_search.specs.Home.{opening}
 use Rattle.group_search.specs.Records.{content_of, entries}
 use Rattle.group_search.proofs.NeededRows.{rows_of_canonical}
 use Rattle.group_history.specs.declared.change.Change.{Change}
 use Rattle.group_history.specs.Change.{changed_group, concerns, step}
-use Rattle.group_history.specs.History.{now}
+use Rattle.group_history.specs.History.{now, content_after}
 use Rattle.group_history.proofs.Versions.{now_own}
 use Rattle.delta_codec.specs.declared.message.TableMessage.{TableMessage}
-use Rattle.replica_shard.specs.Message.{IsTableMessage}
-use Rattle.replica_shard.specs.Shard.{content_after, free_rows, free_rows_beside, is_owned_group, rows_taken_by, shard_after}
+use Rattle.delta_codec.specs.Messages.{IsTableMessage}
+use Rattle.replica_shard.specs.Shard.{free_rows, is_owned_group, rows_taken_by, shard_after}
 use Rattle.replica_shard.proofs.Sums.{beside_most, sum_beside}
 
 -- a canonical record takes the rows that its map needs
@@ -31,8 +31,8 @@ rows_at_most nodes flows = by (content_of nodes flows) refl
     by None is = omega (arith, ap rows_taken_by is)
     by (Some content) is = omega (arith, ap rows_taken_by is, rows_of_content nodes flows content is)
 
-free_are : (records : ℕ → Option GroupRecord) (group : ℕ) → free_rows_beside records group ≡ 64 - sum_beside (λ (other : ℕ). rows_taken_by (records other)) group 0 64
-unfolding free_rows_beside
+free_are : (records : ℕ → Option GroupRecord) (group : ℕ) → rows_left (λ (other : ℕ). rows_taken_by (records other)) group ≡ 64 - sum_beside (λ (other : ℕ). rows_taken_by (records other)) group 0 64
+unfolding rows_left
 free_are records group = refl
 
 taken_if : (own : Bool) (content : Option GroupRecord) (most : ℕ) → rows_taken_by content ≤ most → rows_taken_by (cond own content None) ≤ most

@@ -18,15 +18,14 @@ use Rattle.group_search.specs.Canon.{canonical, fallback, least_pairs, rows_in, 
 use Rattle.group_search.specs.Home.{Home, home, is_home, opening}
 use Rattle.group_search.specs.Image.{Image}
 use Rattle.group_search.specs.Limits.{most_rows}
-use Rattle.group_search.specs.Records.{AreHandled, content_of, entries, record_of}
+use Rattle.group_search.specs.Records.{AreHandled, content_of, entries, record_of, HasNodes}
 use Rattle.group_search.specs.Rows.{rows_of}
 use Rattle.group_search.specs.Words.{HasBits}
 use Rattle.group_search.proofs.Chosen.{are_least}
 use Rattle.group_search.proofs.FirstPastLimit.{names_the_first}
 use Rattle.group_search.proofs.NeededRows.{rows_of_canonical}
-use Rattle.group_cell.specs.Rule.{HasNodes}
 use Rattle.replica_shard.specs.Store.{CanBeTables}
-use Rattle.replica_shard.proofs.Below.{content_nodes}
+use Rattle.group_search.proofs.NodesBelow.{content_nodes}
 
 -- ---- a canonical record has the shape's bits
 

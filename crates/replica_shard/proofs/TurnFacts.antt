@@ -12,12 +12,14 @@ use Rattle.group_search.specs.Home.{Home, is_home, opening}
 use Rattle.group_search.specs.Records.{content_of}
 use Rattle.group_history.specs.declared.change.Change.{Change}
 use Rattle.group_history.specs.Change.{changed_group, concerns}
-use Rattle.group_history.specs.Journal.{change_count}
+use Rattle.group_history.specs.Journal.{change_count, with_next_version}
 use Rattle.group_history.proofs.Versions.{count_other, count_own, now_other}
+use Rattle.group_history.specs.History.{content_after}
 use Rattle.delta_codec.specs.declared.message.TableMessage.{TableMessage}
-use Rattle.replica_shard.specs.Message.{IsTableMessage, IsTableMessageOf}
-use Rattle.replica_shard.specs.Shard.{ShardState, content_after, group_told, is_owned_group, shard_after, with_content, with_group_record, with_next_version}
-use Rattle.replica_shard.specs.Turns.{AreTableMessagesOf, IsOfOwner}
+use Rattle.delta_codec.specs.Messages.{IsTableMessage, IsTableMessageOf}
+use Rattle.replica_shard.specs.Shard.{ShardState, group_told, is_owned_group, shard_after, with_content, with_group_record}
+use Rattle.delta_codec.specs.Journals.{IsOfOwner}
+use Rattle.replica_shard.specs.Turns.{AreTableMessagesOf}
 
 -- groups of one number of one block are one group
 pub one_home : (a b : Home) → is_home a b ≡ true → a ≡ b

@@ -1,5 +1,3 @@
-pub mod Routed
-pub mod Message
 pub mod Shard
 pub mod Store
 pub mod Turns

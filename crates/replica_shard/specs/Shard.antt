@@ -1,20 +1,19 @@
 -- A node's table of the blocks that one node owns: what it says of keys, and what a turn of the owner makes of it.
-use Rattle.std.specs.Prelude.{ℕ, ◌==◌, ◌+◌, ◌-◌, ◌%◌, ◌&&◌, Bool, nat_lt, not, if◌then◌else◌, List, [], length, map, filter, sum, Option, Some, None}
-use Rattle.std.specs.List.{range_with_len}
+use Rattle.std.specs.Prelude.{ℕ, ◌==◌, ◌+◌, ◌%◌, ◌&&◌, Bool, nat_lt, if◌then◌else◌, List, [], length, Option, Some, None}
 use Rattle.flow_types.specs.declared.key.FlowKey.{FlowKey}
 use Rattle.flow_types.specs.declared.record.Flow.{Flow}
 use Rattle.flow_types.specs.Size.{Size}
 use Rattle.hash_family.specs.declared.bucket.Place.{Place}
 use Rattle.group_search.specs.declared.record.GroupRecord.{GroupRecord}
+use Rattle.group_search.specs.Build.{rows_left}
 use Rattle.group_search.specs.Canon.{rows_in}
-use Rattle.group_search.specs.Home.{Home, choices, group_of, is_home, opening}
-use Rattle.group_search.specs.Records.{content_of}
+use Rattle.group_search.specs.Home.{Home, choices, group_of, is_home}
 use Rattle.group_history.specs.declared.change.Change.{Change}
-use Rattle.group_history.specs.History.{now}
-use Rattle.group_history.specs.Journal.{change_count}
+use Rattle.group_history.specs.History.{content_after}
+use Rattle.group_history.specs.Journal.{change_count, with_next_version}
 use Rattle.delta_codec.specs.declared.message.TableMessage.{TableMessage}
 use Rattle.replica_shard.specs.declared.routing.Route.{Route}
-use Rattle.replica_shard.specs.Routed.{decoded}
+use Rattle.group_search.specs.Decoding.{decoded}
 
 -- what a shard says: the cluster's size, its owner, the choices of each block, the record and the version of each group, and
 -- how many of the owner's turns it has taken
@@ -54,22 +53,13 @@ abbrev pub rows_taken_by : Option GroupRecord → ℕ
 rows_taken_by None = 0
 rows_taken_by (Some content) = rows_in content
 
--- how many of 64 rows are left, where each of a block's other groups takes those of its record
-unfoldable pub free_rows_beside : (ℕ → Option GroupRecord) → (group : ℕ) → ℕ
-free_rows_beside records group =
-    64 - sum (map (λ (other : ℕ). rows_taken_by (records other)) (filter (λ (other : ℕ). not (other == group)) (range_with_len 0 64)))
-
--- how many of a block's 64 rows its groups other than this one leave
+-- how many of a block's rows its groups other than this one leave
 abbrev pub free_rows : ShardState → (block group : ℕ) → ℕ
-free_rows shard block group = free_rows_beside (λ (other : ℕ). shard.records (record { block = block; group = other })) group
+free_rows shard block group = rows_left (λ (other : ℕ). rows_taken_by (shard.records (record { block = block; group = other }))) group
 
 -- the records with this one at a group
 abbrev pub with_group_record : (Home → Option GroupRecord) → (changed : Home) → GroupRecord → Home → Option GroupRecord
 with_group_record records changed content asked = if is_home changed asked then Some content else records asked
-
--- the versions with the next one of this group
-abbrev pub with_next_version : (Home → ℕ) → (changed : Home) → Home → ℕ
-with_next_version versions changed asked = if is_home changed asked then versions asked + 1 else versions asked
 
 -- the group whose record a message says
 abbrev pub group_told : TableMessage → Home
@@ -87,10 +77,6 @@ with_content shard message = record {
 }
 
 -- ---- after turns
-
--- the canonical record of a group's map after these changes
-abbrev pub content_after : Size → List Flow → List Change → Home → Option GroupRecord
-content_after size flows changes at = content_of size.nodes (now (opening size.blocks flows at) changes at)
 
 -- a shard of an owner's blocks, where the cluster was opened with these flows, and the owner has accepted these changes since:
 -- a group's version is the number of its changes among them

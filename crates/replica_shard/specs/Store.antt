@@ -11,9 +11,8 @@ use Rattle.group_search.specs.Canon.{rows_in}
 use Rattle.group_search.specs.Home.{Home}
 use Rattle.group_search.specs.Image.{Image}
 use Rattle.group_search.specs.Published.{count, records_of}
-use Rattle.group_search.specs.Records.{AreHandled}
+use Rattle.group_search.specs.Records.{AreHandled, HasNodes}
 use Rattle.group_search.specs.Words.{HasBits}
-use Rattle.group_cell.specs.Rule.{HasNodes}
 use Rattle.replica_shard.specs.Shard.{ShardState, is_owned_block}
 
 -- what a contract sees of a shard and of a list of records that were taken: the records name the cluster's blocks

@@ -1,5 +1,5 @@
 -- What the messages of an owner's changes make of a shard.
-use Rattle.std.specs.Prelude.{ℕ, ◌≡◌, ◌+◌, ◌%◌, ◌<◌, ◌≤◌, ◌++◌, List, [], ◌∷◌, All, Some, length, fold, map, take}
+use Rattle.std.specs.Prelude.{ℕ, ◌≡◌, ◌+◌, ◌≤◌, ◌++◌, List, [], ◌∷◌, All, Some, length, fold, map, take}
 use Rattle.std.specs.List.{slice_get}
 use Rattle.flow_types.specs.declared.key.FlowKey.{FlowKey}
 use Rattle.flow_types.specs.declared.record.Flow.{Flow}
@@ -9,19 +9,15 @@ use Rattle.group_search.specs.Home.{home}
 use Rattle.group_search.specs.Owned.{IsOwned}
 use Rattle.group_history.specs.declared.change.Change.{Change}
 use Rattle.group_history.specs.Journal.{change_count}
+use Rattle.group_history.specs.History.{content_after}
 use Rattle.delta_codec.specs.declared.message.TableMessage.{TableMessage}
 use Rattle.delta_codec.specs.Deltas.{delta_told, deltas}
-use Rattle.replica_shard.specs.Message.{IsTableMessage, IsTableMessageOf}
+use Rattle.delta_codec.specs.Messages.{IsTableMessage, IsTableMessageOf}
 use Rattle.replica_shard.specs.Owners.{publication_of}
-use Rattle.replica_shard.specs.Routed.{decoded}
-use Rattle.replica_shard.specs.Shard.{content_after, home_in_state, route_in_state, shard_after, with_content}
+use Rattle.group_search.specs.Decoding.{decoded}
+use Rattle.replica_shard.specs.Shard.{home_in_state, route_in_state, shard_after, with_content}
 use Rattle.replica_shard.specs.Store.{ShardStore, shard_state_of}
-
--- the change is of a group of one of the owner's blocks
-pub record IsOfOwner (size : Size) (owner : ℕ) (change : Change) : Type 0 where
-  pub within : change.block < size.blocks
-  pub owned : change.block % size.nodes ≡ owner
-  pub in_block : change.group < 64
+use Rattle.delta_codec.specs.Journals.{IsOfOwner}
 
 -- a shard before a change becomes the shard after it by the change's message
 abbrev pub TableTurnsGoOn : Type 0
@@ -46,7 +42,7 @@ TurnsTellDeltas = (size : Size) (owner : ℕ) (flows : List Flow) (changes : Lis
     → AreTableMessagesOf size owner flows changes messages
     → map delta_told (map publication_of messages) ≡ take (length messages) (deltas size flows changes)
 
--- the shard is that after so many of its owner's turns, and its records tell as many of the owner's deltas
+-- the shard is that after its owner's first turns, and its records tell as many of the owner's deltas
 pub record IsAfterTurns (size : Size) (owner : ℕ) (flows : List Flow) (changes : List Change) (turns : ℕ) (shard : ShardStore) : Type 0 where
   pub state : shard_state_of shard ≡ shard_after size owner flows (take turns changes)
   pub tells : map delta_told shard.list ≡ take turns (deltas size flows changes)

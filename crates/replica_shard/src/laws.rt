@@ -1,21 +1,7 @@
-//! What holds of where flows send keys, and of the turns of an owner. Each law is a function that does nothing, whose
-//! contract says it.
+//! What holds of the turns of an owner. Each law is a function that does nothing, whose contract says it.
 
-ghost use Rattle.replica_shard.specs.Routed.{BuildReachesHandlers, StaysInCluster};
 ghost use Rattle.replica_shard.specs.Store.{BuildsCanBeTables};
 ghost use Rattle.replica_shard.specs.Turns.{HomesStay, PrefixesAreTurns, RoutesFollowChanges, TableTurnsGoOn, TurnsMakeTable, TurnsTellDeltas};
-
-/// Where the flows can be built, the key of each flow is sent to the flow's handler.
-#[tactic(auto, using(crate::proofs::Built::routed_to_handlers))]
-pub fn build_reaches_handlers()
-    ensures { BuildReachesHandlers }
-{}
-
-/// No key is sent to a node that there isn't.
-#[tactic(auto, using(crate::proofs::Below::routed_below))]
-pub fn routes_stay_in_the_cluster()
-    ensures { StaysInCluster }
-{}
 
 /// A shard can be opened with the images of a build of the cluster's flows.
 #[tactic(auto, using(crate::proofs::Tables::can_be_tables))]

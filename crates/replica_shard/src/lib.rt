@@ -7,9 +7,8 @@
 //! A contract sees, of each seat, the list of the records that it has taken or seen (`specs/Seats.antt`), and by such a
 //! list a `ShardState` (`specs/Store.antt`): the cluster's size, the owner, the choices of each of the owner's blocks, the
 //! record and the version of each of their groups, and how many of the owner's turns were taken. `specs/Shard.antt` says
-//! what a turn makes of it, what it is after so many turns, and where it sends a key; `specs/Message.antt` which message an
-//! owner's change makes for it, `specs/Turns.antt` what these messages make of it, and `specs/Routed.antt` where the flows of
-//! a cluster send a key.
+//! what a turn makes of it, what it is after turns, and where it sends a key; `specs/Turns.antt` what the
+//! messages of an owner's changes make of it.
 //!
 //! Only `open`, `open_plan` and `ShardPlan::of` take memory, and no call waits. Proved, for every interleaving of loads and
 //! stores: each call's exact answer; that a shard takes its owner's next turn and no other, and after a refusal is as it
@@ -29,7 +28,6 @@ mod tests;
 mod threads;
 
 pub use group_cell::Changing;
-pub use laws::{build_reaches_handlers, routes_stay_in_the_cluster};
 pub use refused::ShardRefused;
 pub use routing::Route;
 pub use shard::{Shard, ShardPlan, ShardReader, ShardWriter};

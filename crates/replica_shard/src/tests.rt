@@ -2,7 +2,7 @@ ghost use Rattle.std.specs.Prelude.{◌≡◌, ◌<◌, ◌≤◌, All, IfOk, If
 ghost use Rattle.group_search.specs.Canon.{rows_in};
 ghost use Rattle.group_search.specs.Owned.{IsOwned};
 ghost use Rattle.group_search.specs.Words.{HasBits};
-ghost use Rattle.group_cell.specs.Rule.{HasNodes};
+ghost use Rattle.group_search.specs.Records.{HasNodes};
 ghost use Rattle.replica_shard.specs.Seats.{IsShardReaderOf, IsShardWriterOf};
 
 use crate::{Route, Shard, ShardReader, ShardRefused, ShardWriter, laws};
@@ -41,7 +41,7 @@ fn giving(value: u8) -> GroupRecord
     GroupRecord::Served(Served { bits: 2, pairs })
 }
 
-/// A record of so many rows.
+/// A record of this many rows.
 fn of_rows(alloc: Global, count: u16) -> Result<GroupRecord, Fail> {
     let mut rows = Vec::new(alloc);
     'rows: for source_port in 0..count {
@@ -96,25 +96,93 @@ fn message(turn: u32, block: u16, group: u8, content: GroupRecord) -> Message {
     })
 }
 
-/// What a shard answers to a message, and how many turns it has taken then.
-fn answers(
+/// What a message says of its group: a record that gives each key this value, or one of this many rows.
+#[derive(Clone, Copy)]
+enum Told {
+    Value(u8),
+    OfRows(u16),
+}
+
+fn record_told(alloc: Global, told: Told) -> Result<GroupRecord, Fail> {
+    match told {
+        Told::Value(value) => Ok(giving(value)),
+        Told::OfRows(count) => of_rows(alloc, count),
+    }
+}
+
+/// A turn of a block's owner, what the shard answers to its message, and how many turns it has taken then.
+#[derive(Drop)]
+struct Offer {
+    turn: u32,
+    block: u16,
+    group: u8,
+    told: Told,
+    answer: Result<(), ShardRefused>,
+    taken: u32,
+}
+
+fn turn(
+    turn: u32,
+    block: u16,
+    group: u8,
+    told: Told,
+    answer: Result<(), ShardRefused>,
+    taken: u32,
+) -> Offer {
+    Offer {
+        turn,
+        block,
+        group,
+        told,
+        answer,
+        taken,
+    }
+}
+
+/// Offers the shard one message.
+fn offer_one(
     rt: &impl Abort,
     shape: Shape,
     shard: &Shard,
     writer: &mut ShardWriter,
-    message: Message,
-    answer: Result<(), ShardRefused>,
-    taken: u32,
+    offered: &Offer,
+    record: GroupRecord,
 )
     requires shape { shard.now.shape ≡ shape }
     requires writer { IsShardWriterOf shard.now writer.old }
     ensures { IsShardWriterOf shard.now writer.new }
 {
+    let message = message(offered.turn, offered.block, offered.group, record);
     assert!(rt; fits(shape, &message));
     if let Message::Table(table) = &message {
-        assert_eq!(rt; shard.apply(writer, table), answer, "turn {}", table.turn);
-        assert_eq!(rt; shard.taken(writer), taken);
+        assert_eq!(rt;
+            shard.apply(writer, table),
+            offered.answer,
+            "turn {}",
+            table.turn
+        );
+        assert_eq!(rt; shard.taken(writer), offered.taken);
     }
+}
+
+/// Offers the shard these messages in their order.
+fn offer_all(
+    rt: &impl Abort,
+    alloc: Global,
+    shape: Shape,
+    shard: &Shard,
+    writer: &mut ShardWriter,
+    offers: &[Offer],
+) -> Result<(), Fail>
+    requires shape { shard.now.shape ≡ shape }
+    requires writer { IsShardWriterOf shard.now writer.old }
+    ensures { IsShardWriterOf shard.now writer.new }
+{
+    'offers: for offered in offers {
+        let record = record_told(alloc, offered.told)?;
+        offer_one(rt, shape, shard, writer, offered, record);
+    }
+    Ok(())
 }
 
 /// What the reader and the writer find of a key, where its block is the owner's.
@@ -148,137 +216,34 @@ fn found(
 #[test]
 fn takes_the_next_turn_alone(rt: HostRuntime) -> Result<(), Fail> {
     let (shape, shard, mut writer) = shard(rt.alloc())?;
-    let w = &mut writer;
     let foreign = Err(ShardRefused::Foreign { owner: 0 });
-    answers(
-        &rt,
-        shape,
-        &shard,
-        w,
-        message(1, 0, 5, giving(3)),
-        foreign,
-        0,
-    );
     let early = |have| Err(ShardRefused::Early { have });
-    answers(
-        &rt,
-        shape,
-        &shard,
-        w,
-        message(2, 1, 5, giving(3)),
-        early(0),
-        0,
-    );
-    answers(
-        &rt,
-        shape,
-        &shard,
-        w,
-        message(1, 1, 5, giving(3)),
-        Ok(()),
-        1,
-    );
     let repeat = Err(ShardRefused::Repeat { have: 1 });
-    answers(
-        &rt,
-        shape,
-        &shard,
-        w,
-        message(1, 1, 5, giving(2)),
-        repeat,
-        1,
-    );
-    answers(
-        &rt,
-        shape,
-        &shard,
-        w,
-        message(3, 5, 5, giving(2)),
-        early(1),
-        1,
-    );
-    answers(
-        &rt,
-        shape,
-        &shard,
-        w,
-        message(2, 5, 5, giving(2)),
-        Ok(()),
-        2,
-    );
-    Ok(())
+    let offers = [
+        turn(1, 0, 5, Told::Value(3), foreign, 0),
+        turn(2, 1, 5, Told::Value(3), early(0), 0),
+        turn(1, 1, 5, Told::Value(3), Ok(()), 1),
+        turn(1, 1, 5, Told::Value(2), repeat, 1),
+        turn(3, 5, 5, Told::Value(2), early(1), 1),
+        turn(2, 5, 5, Told::Value(2), Ok(()), 2),
+    ];
+    offer_all(&rt, rt.alloc(), shape, &shard, &mut writer, &offers)
 }
 
 #[test]
 fn refuses_more_rows_than_the_other_groups_leave(rt: HostRuntime) -> Result<(), Fail> {
-    let alloc = rt.alloc();
-    let (shape, shard, mut writer) = shard(alloc)?;
-    let w = &mut writer;
+    let (shape, shard, mut writer) = shard(rt.alloc())?;
     let full = |needed, free| Err(ShardRefused::RowsFull { needed, free });
-    answers(
-        &rt,
-        shape,
-        &shard,
-        w,
-        message(1, 1, 5, of_rows(alloc, 40)?),
-        Ok(()),
-        1,
-    );
-    answers(
-        &rt,
-        shape,
-        &shard,
-        w,
-        message(2, 1, 6, of_rows(alloc, 25)?),
-        full(25, 24),
-        1,
-    );
-    answers(
-        &rt,
-        shape,
-        &shard,
-        w,
-        message(2, 1, 6, of_rows(alloc, 24)?),
-        Ok(()),
-        2,
-    );
-    answers(
-        &rt,
-        shape,
-        &shard,
-        w,
-        message(3, 1, 5, of_rows(alloc, 41)?),
-        full(41, 40),
-        2,
-    );
-    answers(
-        &rt,
-        shape,
-        &shard,
-        w,
-        message(3, 5, 5, of_rows(alloc, 64)?),
-        Ok(()),
-        3,
-    );
-    answers(
-        &rt,
-        shape,
-        &shard,
-        w,
-        message(4, 1, 5, giving(1)),
-        Ok(()),
-        4,
-    );
-    answers(
-        &rt,
-        shape,
-        &shard,
-        w,
-        message(5, 1, 7, of_rows(alloc, 40)?),
-        Ok(()),
-        5,
-    );
-    Ok(())
+    let offers = [
+        turn(1, 1, 5, Told::OfRows(40), Ok(()), 1),
+        turn(2, 1, 6, Told::OfRows(25), full(25, 24), 1),
+        turn(2, 1, 6, Told::OfRows(24), Ok(()), 2),
+        turn(3, 1, 5, Told::OfRows(41), full(41, 40), 2),
+        turn(3, 5, 5, Told::OfRows(64), Ok(()), 3),
+        turn(4, 1, 5, Told::Value(1), Ok(()), 4),
+        turn(5, 1, 7, Told::OfRows(40), Ok(()), 5),
+    ];
+    offer_all(&rt, rt.alloc(), shape, &shard, &mut writer, &offers)
 }
 
 // A turn changes its group alone. The reader sees it with its next look at the group.
@@ -287,33 +252,12 @@ fn routes_by_the_turns_taken(rt: HostRuntime) -> Result<(), Fail> {
     let (shape, shard, mut writer) = shard(rt.alloc())?;
     let mut reader = shard.reader(&mut writer);
     let w = &mut writer;
-    answers(
-        &rt,
-        shape,
-        &shard,
-        w,
-        message(1, 5, 7, giving(3)),
-        Ok(()),
-        1,
-    );
-    answers(
-        &rt,
-        shape,
-        &shard,
-        w,
-        message(2, 5, 7, giving(0)),
-        Ok(()),
-        2,
-    );
-    answers(
-        &rt,
-        shape,
-        &shard,
-        w,
-        message(3, 1, 8, giving(3)),
-        Ok(()),
-        3,
-    );
+    let offers = [
+        turn(1, 5, 7, Told::Value(3), Ok(()), 1),
+        turn(2, 5, 7, Told::Value(0), Ok(()), 2),
+        turn(3, 1, 8, Told::Value(3), Ok(()), 3),
+    ];
+    offer_all(&rt, rt.alloc(), shape, &shard, w, &offers)?;
     shard.meet(&mut reader, w);
     let mut met = [0u16; 4];
     'ports: for source_port in 0..2000 {
@@ -351,7 +295,7 @@ fn key_of_group_5(shape: Shape) -> Option<FlowKey>
     None
 }
 
-/// Takes so many turns of one group, each of which sends its keys to another node.
+/// Takes this many turns of one group, each of which sends its keys to another node.
 fn take_many(shape: Shape, shard: &Shard, mut writer: ShardWriter, count: u32) -> ShardWriter
     requires shape { shard.now.shape ≡ shape }
     requires writer { IsShardWriterOf shard.now writer }
@@ -369,7 +313,7 @@ fn take_many(shape: Shape, shard: &Shard, mut writer: ShardWriter, count: u32) -
     writer
 }
 
-/// How many of so many routes were answered, and whether each of these was by one whole record.
+/// How many of these many routes were answered, and whether each of these was by one whole record.
 fn route_many(shard: &Shard, mut reader: ShardReader, key: FlowKey, count: u32) -> (u32, bool)
     requires reader { IsShardReaderOf shard.now reader }
     requires owned { IsOwned shard.now.shape shard.now.owner key }
@@ -423,8 +367,6 @@ fn routes_are_whole_while_one_takes_turns(rt: HostRuntime) -> Result<(), Fail> {
 
 #[test]
 fn laws_can_be_called() {
-    laws::build_reaches_handlers();
-    laws::routes_stay_in_the_cluster();
     laws::builds_can_be_tables();
     laws::a_turn_goes_on();
     laws::turns_make_the_table();

@@ -11,6 +11,7 @@ use Rattle.flow_types.specs.declared.record.Flow.{Flow}
 use Rattle.flow_types.specs.declared.record.Record.{Record}
 use Rattle.flow_types.specs.Map.{flow_at}
 use Rattle.flow_types.specs.Size.{value_bits}
+use Rattle.flow_types.specs.Limits.{most_turns}
 use Rattle.hash_family.specs.Hash.{place}
 use Rattle.group_search.specs.declared.record.GroupRecord.{GroupRecord}
 use Rattle.group_search.specs.Canon.{canonical, rows_in}
@@ -20,10 +21,10 @@ use Rattle.group_search.proofs.NeededRows.{rows_of_canonical}
 use Rattle.group_history.specs.declared.change.Change.{Change}
 use Rattle.group_history.specs.Change.{step}
 use Rattle.group_history.proofs.Versions.{distinct-step}
-use Rattle.rib_owner.specs.declared.refused.UpdateRefused.{UpdateRefused}
+use Rattle.group_history.specs.declared.refused.UpdateRefused.{UpdateRefused}
 use Rattle.rib_owner.specs.declared.turn.Turn.{Turn}
-use Rattle.rib_owner.specs.declared.update.Update.{Update}
-use Rattle.rib_owner.specs.Acceptance.{change_at, grounds, grounds_in, updated_key, refusal, refusal_of_place, wanted}
+use Rattle.group_history.specs.declared.update.Update.{Update}
+use Rattle.group_history.specs.Acceptance.{change_at, grounds, grounds_in, updated_key, refusal, refusal_of_place, wanted}
 use Rattle.rib_owner.specs.Judging.{IsFor, refusal_in_rows}
 use Rattle.rib_owner.specs.Part.{IsKeptPart, IsOwner, rows_free}
 use Rattle.group_search.specs.Owned.{IsOwned}
@@ -36,6 +37,7 @@ use Rattle.rib_owner.proofs.Counted.{map_within, with_map}
 use Rattle.rib_owner.proofs.Judged.{few_after}
 use Rattle.rib_owner.proofs.Kept.{kept_with}
 use Rattle.rib_owner.proofs.Standing.{stands_for}
+use Rattle.rib_owner.specs.Decision.{IsSeen}
 
 module _ (bits turns : ℕ) (at : Home) (part : Part) (update : Update) (kept : IsKeptPart bits part) (low : at.group < 64)
     (there : refusal_of_place update (grounds_in bits turns at (map_in part) update) ≡ None) where
@@ -56,15 +58,11 @@ module _ (bits turns : ℕ) (at : Home) (part : Part) (update : Update) (kept : 
 
 -- ---- what an owner sees of an update
 
--- where its key is kept, and the change that it makes
-pub record IsSeen (rib : Rib) (update : Update) (block group index : ℕ) (found : Part) (change : Change) : Type 0 where
-  pub block_is : block ≡ (place rib.size.blocks (updated_key update)).block
-  pub index_is : index ≡ block / rib.size.nodes
-  pub inside : index < length rib.parts
-  pub group_is : group ≡ group_in (part_of rib block) rib.size.blocks (updated_key update)
-  pub low : group < 64
-  pub found_is : found ≡ part_of rib block
-  pub change_is : change ≡ change_at (record { block = block; group = group }) update
+pub part_there : (rib held : Rib) → held ≡ rib → (block index : ℕ) → index ≡ block / rib.size.nodes → index < length rib.parts
+    → (found : Part) → found ≡ get_or held.parts index found → found ≡ part_of rib block
+part_there rib held same block index index_is inside found found_is =
+    found_is ∙ ap (λ (r : Rib). get_or r.parts index found) same ∙ get_or_default rib.parts index found no_part inside
+    ∙ ap (λ (i : ℕ). get_or rib.parts i no_part) index_is
 
 pub seen : (rib held : Rib) → held ≡ rib → (update : Update) (key : FlowKey) → key ≡ updated_key update → (block group index : ℕ)
     → block ≡ (place rib.size.blocks key).block → index ≡ block / rib.size.nodes → index < length rib.parts
@@ -72,15 +70,13 @@ pub seen : (rib held : Rib) → held ≡ rib → (update : Update) (key : FlowKe
     → (found : Part) → found ≡ get_or held.parts index found → (to : Option (ℕ × Record)) → to ≡ wanted update
     → IsSeen rib update block group index found (record { block = block; group = group; key = key; to = to })
 seen rib held same update key key_is block group index block_is index_is inside group_is low found found_is to to_is =
-    let parts : held.parts ≡ rib.parts = ap (λ (r : Rib). r.parts) same in
     record {
       block_is = block_is ∙ ap (λ (k : FlowKey). (place rib.size.blocks k).block) key_is;
       index_is = index_is;
       inside = inside;
       group_is = group_is ∙ ap (group_in (part_of rib block) rib.size.blocks) key_is;
       low = low;
-      found_is = found_is ∙ ap (λ (ps : List Part). get_or ps index found) parts ∙ get_or_default rib.parts index found no_part inside
-          ∙ ap (λ (i : ℕ). get_or rib.parts i no_part) index_is;
+      found_is = part_there rib held same block index index_is inside found found_is;
       change_is = ap (λ (k : FlowKey). change_with block group k to) key_is ∙ ap (change_with block group (updated_key update)) to_is;
     } where
       change_with : ℕ → ℕ → FlowKey → Option (ℕ × Record) → Change
@@ -124,7 +120,7 @@ module _ (rib : Rib) (update : Update) (block group index : ℕ) (found : Part) 
     part : IsPartOf rib.size flows rib.journal.changes block found
     part = below (omega (arith, is_seen.block_is)) flows is
 
-    module _ (left : length rib.journal.changes ≢ 65535) where
+    module _ (left : length rib.journal.changes ≢ most_turns) where
       pub seen_place : (refused : UpdateRefused)
           → ((bits turns : ℕ) → IsFor (refusal_of_place update (grounds_in bits turns (record { block = block; group = group }) (map_in found) update)) refused)
           → IsFor (refusal update (grounds rib.size flows rib.journal.changes update)) refused

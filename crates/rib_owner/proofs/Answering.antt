@@ -6,29 +6,32 @@ use Rattle.flow_types.specs.declared.key.FlowKey.{FlowKey}
 use Rattle.flow_types.specs.declared.record.Flow.{Flow}
 use Rattle.flow_types.specs.Map.{AreDistinct, flow_at}
 use Rattle.flow_types.specs.Size.{Size, value_bits}
+use Rattle.flow_types.specs.Limits.{most_turns}
 use Rattle.hash_family.specs.Hash.{place}
 use Rattle.group_search.specs.Canon.{canonical}
 use Rattle.group_search.specs.Home.{Home, choices, group_of, home}
 use Rattle.group_search.specs.Records.{content_of, entries}
 use Rattle.group_history.specs.declared.change.Change.{Change}
 use Rattle.group_history.specs.Change.{step}
-use Rattle.rib_owner.specs.declared.refused.UpdateRefused.{UpdateRefused}
-use Rattle.rib_owner.specs.declared.refused.UpdateRefused.TheVariants.{Spent}
+use Rattle.group_history.specs.declared.refused.UpdateRefused.{UpdateRefused}
+use Rattle.group_history.specs.declared.refused.UpdateRefused.TheVariants.{Spent}
 use Rattle.rib_owner.specs.declared.turn.Turn.{Turn}
-use Rattle.rib_owner.specs.declared.update.Update.{Update}
-use Rattle.rib_owner.specs.Acceptance.{change_at, change_of, grounds, grounds_in, updated_key, maps_now, refusal, refusal_of_place, refusal_of_rows}
+use Rattle.group_history.specs.declared.update.Update.{Update}
+use Rattle.group_history.specs.Acceptance.{change_at, change_of, grounds, grounds_in, updated_key, maps_now, refusal, refusal_of_place, refusal_of_rows}
 use Rattle.rib_owner.specs.Judging.{IsFor, refusal_in_rows}
 use Rattle.rib_owner.specs.Part.{IsKeptPart}
 use Rattle.group_search.specs.Owned.{IsOwned}
-use Rattle.rib_owner.specs.Rib.{IsPartOf, IsRibOf, Part, Rib, group_in, map_in, map_now, node_and_record, part_of}
+use Rattle.group_history.specs.History.{map_now}
+use Rattle.rib_owner.specs.Rib.{IsPartOf, IsRibOf, Part, Rib, group_in, map_in, node_and_record, part_of}
 use Rattle.rib_owner.specs.Turn.{IsTurn, plan_of}
 use Rattle.group_history.proofs.Versions.{distinct-step}
 use Rattle.rib_owner.proofs.AnyOrder.{at_permuted, canonical_alike, distinct_permuted, step_permuted}
-use Rattle.rib_owner.proofs.Judged.{for_place, for_rows, grounds_same, lifted, rows_alike, spent}
+use Rattle.group_history.proofs.Judged.{for_place, for_rows, spent}
+use Rattle.rib_owner.proofs.Judged.{grounds_same, lifted, rows_alike}
 
 -- a journal that is full leaves no turn
-pub answer_spent : (size : Size) (flows : List Flow) (changes : List Change) (update : Update) → length changes ≡ 65535
-    → refusal update (grounds size flows changes update) ≡ Some (Spent 65535)
+pub answer_spent : (size : Size) (flows : List Flow) (changes : List Change) (update : Update) → length changes ≡ most_turns
+    → refusal update (grounds size flows changes update) ≡ Some (Spent most_turns)
 unfolding grounds grounds_in
 answer_spent size flows changes update last = spent update (grounds size flows changes update) last
 
@@ -75,8 +78,8 @@ module _ (size : Size) (flows : List Flow) (changes : List Change) (update : Upd
   unfolding grounds grounds_in
   turns_are = refl
 
-  module _ (left : length changes ≢ 65535) where
-    not_last : (grounds size flows changes update).turns ≢ 65535
+  module _ (left : length changes ≢ most_turns) where
+    not_last : (grounds size flows changes update).turns ≢ most_turns
     not_last last = left (sym turns_are ∙ last)
 
     pub answer_place : (refused : UpdateRefused)

@@ -1,7 +1,6 @@
 -- What of a map doesn't depend on the order of its flows.
 use Rattle.std.proofs.Common.{ℕ, ◌≡◌, ◌∙◌, Bool, true, false, cond, List, length, refl, sym, ap}
-use Rattle.std.specs.Prelude.{◌==◌, IsPermutation}
-use Rattle.std.specs.Prelude.{option_map}
+use Rattle.std.specs.Prelude.{◌==◌, IsPermutation, option_map}
 use Rattle.std.specs.List.{list_all}
 use Rattle.std.proofs.lemmas.List.Sorted.{All-permutation, IsPermutation-map, IsPermutation-sym, length_permutation}
 use Rattle.std.proofs.lemmas.List.Sums.{AllPass-from_list_all, list_all-from_AllPass}
@@ -22,7 +21,7 @@ use Rattle.group_history.specs.declared.change.Change.{Change}
 use Rattle.group_history.specs.Change.{flow_to, step}
 use Rattle.group_history.proofs.Versions.{distinct-step, flow_at-step}
 use Rattle.rib_owner.proofs.Gathered.{distinct_entries}
-use Rattle.rib_owner.proofs.Rows.{length-entries}
+use Rattle.group_search.proofs.NeededRows.{length-entries}
 
 pub distinct_permuted : (flows others : List Flow) → IsPermutation flows others → AreDistinct flows → AreDistinct others
 distinct_permuted flows others same distinct = AllPairs-permutation HaveOtherKeys (λ a b ne e. ne (sym e)) flows others same distinct

@@ -1,6 +1,6 @@
 -- A group's map after a change in one of its buckets.
 use Rattle.std.proofs.Common.{ℕ, ◌≡◌, ◌∙◌, ◌≤◌, ◌<◌, Option, Some, None, List, [], ◌∷◌, ◌++◌, length, get_or, set, refl, sym, ap, subst, arith}
-use Rattle.std.specs.Prelude.{IsPermutation}
+use Rattle.std.specs.Prelude.{◌==◌, IsPermutation, filter}
 use Rattle.std.proofs.lemmas.Bool.{eq-eqb}
 use Rattle.std.proofs.lemmas.List.{get_or-set_same, length-set, set-set}
 use Rattle.std.proofs.lemmas.List.Sorted.{IsPermutation-refl, IsPermutation-sym}
@@ -13,7 +13,7 @@ use Rattle.group_search.specs.Home.{group_of}
 use Rattle.group_history.specs.Change.{flow_to, with_at}
 use Rattle.rib_owner.specs.Stock.{ArePlaced, bucket_for, flows_in, maps_of}
 use Rattle.rib_owner.proofs.Buckets.{in_bucket, pushed, removed}
-use Rattle.rib_owner.proofs.KeysBucket.{found, without_there}
+use Rattle.rib_owner.proofs.KeysBucket.{found, standing, without_there}
 use Rattle.rib_owner.proofs.GroupMaps.{group_low, map_at, maps_with}
 
 -- a flow behind those of a bucket
@@ -35,6 +35,15 @@ module _ (choices : List ℕ) (buckets : List (List Flow)) (inside : 256 ≤ len
       sym
       (ap (flow_at key) (map_at choices buckets (group_of choices (bucket_for key)) (group_low choices buckets (bucket_for key)))
       ∙ found buckets placed key choices (group_of choices (bucket_for key)) 256 0 (eq-eqb _ (group_of choices (bucket_for key)) refl) (omega arith) (omega (arith, bucket_low)))
+
+  -- those of the group that stand in its bucket are the bucket's
+  pub standing_there : filter (λ (flow : Flow). bucket_for flow.key == bucket_for key) (get_or (maps_of choices buckets) (group_of choices (bucket_for key)) [])
+      ≡ in_bucket buckets (bucket_for key)
+  unfolding flows_in
+  standing_there =
+      ap (filter (λ (flow : Flow). bucket_for flow.key == bucket_for key)) (map_at choices buckets (group_of choices (bucket_for key)) (group_low choices buckets (bucket_for key)))
+      ∙ standing buckets placed (bucket_for key) choices (group_of choices (bucket_for key)) 256 0 (eq-eqb _ (group_of choices (bucket_for key)) refl) (omega arith)
+      (omega (arith, bucket_low))
 
   abbrev less : List (List Flow)
   less = set buckets (bucket_for key) (without key (in_bucket buckets (bucket_for key)))

@@ -18,7 +18,7 @@ module _ (choices : List ℕ) (group : ℕ) where
   abbrev pub goes_there : ℕ → Bool
   goes_there bucket = group_of choices bucket == group
 
-  -- of so many buckets from this one on
+  -- of a number of buckets from this one on
   abbrev pub flows_from : List (List Flow) → (from n : ℕ) → List Flow
   flows_from buckets from n = flat_map (in_bucket buckets) (filter goes_there (range_with_len from n))
 

@@ -2,10 +2,11 @@
 use Rattle.std.proofs.Common.{ℕ, zero, suc, replicate, ◌≡◌, ◌≢◌, ◌+◌, ◌-◌, ◌≤◌, ◌<◌, List, [], length, get_or, set, refl, sym, ap, arith}
 use Rattle.std.proofs.lemmas.List.{get_or-set_other, get_or-set_same}
 use Rattle.flow_types.specs.declared.record.Flow.{Flow}
-use Rattle.rib_owner.specs.Acceptance.{keys_in}
+use Rattle.group_history.specs.Acceptance.{keys_in}
 use Rattle.rib_owner.specs.Part.{rows_free, rows_taken}
 use Rattle.rib_owner.specs.Rib.{Part, map_in}
-use Rattle.rib_owner.proofs.Sums.{beside_same, from_same, sum_apart, sum_beside, sum_from, sum_more, sum_of_none}
+use Rattle.group_search.proofs.Sums.{beside_same, from_same, sum_apart, sum_beside, sum_from, sum_more, sum_of_none}
+use Rattle.group_search.specs.Build.{rows_left}
 
 abbrev pub no_flows : List Flow
 no_flows = []
@@ -20,7 +21,7 @@ unfolding rows_taken
 rows_apart part group low = sum_apart (λ (x : ℕ). get_or part.rows x 0) group 64 0 (omega arith) low
 
 pub rows_left_is : (part : Part) (group : ℕ) → rows_free part group ≡ 64 - sum_beside (λ (x : ℕ). get_or part.rows x 0) group 0 64
-unfolding rows_free
+unfolding rows_left
 rows_left_is part group = refl
 
 -- a part with another map and another number of rows at a group

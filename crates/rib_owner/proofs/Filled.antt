@@ -26,17 +26,17 @@ use Rattle.group_search.specs.Records.{content_of, entries, record_of}
 use Rattle.group_search.proofs.FirstPastLimit.{names_the_first}
 use Rattle.group_search.proofs.NeededRows.{rows_of_canonical}
 use Rattle.group_history.specs.declared.change.Change.{Change}
-use Rattle.group_history.specs.History.{changed, now}
+use Rattle.group_history.specs.History.{changed, now, map_now}
 use Rattle.group_history.specs.Journal.{Log, concerning}
-use Rattle.rib_owner.specs.Acceptance.{keys_in}
+use Rattle.group_history.specs.Acceptance.{keys_in}
 use Rattle.rib_owner.specs.Opening.{AreFilled, IsFilled, read_of}
 use Rattle.rib_owner.specs.Part.{IsKeptPart, IsOwner, rows_taken}
-use Rattle.rib_owner.specs.Rib.{IsRibOf, Part, map_in, map_now, no_part}
+use Rattle.rib_owner.specs.Rib.{IsRibOf, Part, map_in, no_part}
 use Rattle.rib_owner.specs.Stock.{ChangesGroup}
 use Rattle.rib_owner.proofs.AnyOrder.{distinct_permuted, rows_alike_in}
 use Rattle.rib_owner.proofs.Counted.{keys_with, no_keys}
 use Rattle.rib_owner.proofs.Gathered.{nobody}
-use Rattle.rib_owner.proofs.Sums.{from_same}
+use Rattle.group_search.proofs.Sums.{from_same}
 
 abbrev empty_map : List Flow
 empty_map = []

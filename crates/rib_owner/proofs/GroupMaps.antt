@@ -8,9 +8,9 @@ use Rattle.std.proofs.lemmas.List.Sums.{sum-map}
 use Rattle.block_layout.specs.Candidate.{candidate}
 use Rattle.flow_types.specs.declared.record.Flow.{Flow}
 use Rattle.group_search.specs.Home.{group_of}
-use Rattle.rib_owner.specs.Acceptance.{keys_in}
+use Rattle.group_history.specs.Acceptance.{keys_in}
 use Rattle.rib_owner.specs.Stock.{flows_in, maps_of}
-use Rattle.rib_owner.proofs.Sums.{beside_same, from_same, part_of_sum, sum-cons, sum_apart, sum_from, sum_of_none}
+use Rattle.group_search.proofs.Sums.{beside_same, from_same, part_of_sum, sum-cons, sum_apart, sum_from, sum_of_none}
 use Rattle.rib_owner.proofs.Buckets.{and_rest, flows_from, goes_there, in_bucket, one_more, untouched}
 
 module _ (choices : List ℕ) (buckets : List (List Flow)) where

@@ -1,29 +1,29 @@
 -- The judgement of an update, case by case, and by the maps that a block has now.
-use Rattle.std.proofs.Common.{ℕ, ◌≡◌, ◌≢◌, ◌∙◌, ◌+◌, ◌-◌, ◌≤◌, ◌<◌, Bool, true, false, cond, List, length, Option, Some, None, is_some, refl, sym, ap, arith}
+use Rattle.std.proofs.Common.{ℕ, ◌≡◌, ◌≢◌, ◌+◌, ◌-◌, ◌≤◌, ◌<◌, Bool, true, false, cond, List, length, Option, Some, None, is_some, refl, sym, ap, arith}
 use Rattle.std.specs.Prelude.{◌==◌, IsPermutation, nat_lt}
-use Rattle.std.specs.Option.{option_or}
 use Rattle.std.proofs.lemmas.List.Sorted.{length_permutation}
 use Rattle.std.proofs.lemmas.Bool.{le-ltb, eqb-false, eq-eqb, ne_eqb}
 use Rattle.flow_types.specs.declared.key.FlowKey.{FlowKey}
 use Rattle.flow_types.specs.declared.record.Flow.{Flow}
 use Rattle.flow_types.specs.Map.{AreDistinct, flow_at}
-use Rattle.group_search.specs.Build.{rows_needed}
+use Rattle.group_search.specs.Build.{rows_needed, rows_left}
 use Rattle.group_search.specs.Canon.{is_separable}
 use Rattle.group_search.specs.Home.{Home}
 use Rattle.group_search.specs.Records.{entries}
 use Rattle.group_history.specs.Change.{step}
-use Rattle.rib_owner.specs.declared.refused.UpdateRefused.{UpdateRefused}
-use Rattle.rib_owner.specs.declared.refused.UpdateRefused.TheVariants.{Spent, Absent, BlockFull, RowsFull, OutOfMemory}
-use Rattle.rib_owner.specs.declared.update.Update.{Update}
-use Rattle.rib_owner.specs.declared.update.Update.TheVariants.{Set, Del}
-use Rattle.rib_owner.specs.Acceptance.{Grounds, change_at, free_beside, grounds_in, updated_key, keys_in, refusal, refusal_of_place, refusal_of_rows}
+use Rattle.group_history.specs.declared.refused.UpdateRefused.{UpdateRefused}
+use Rattle.group_history.specs.declared.refused.UpdateRefused.TheVariants.{Spent, Absent, BlockFull, RowsFull, OutOfMemory}
+use Rattle.group_history.specs.declared.update.Update.{Update}
+use Rattle.group_history.specs.declared.update.Update.TheVariants.{Set, Del}
+use Rattle.group_history.specs.Acceptance.{Grounds, change_at, free_beside, grounds_in, updated_key, keys_in, refusal_of_place, refusal_of_rows}
 use Rattle.rib_owner.specs.Judging.{IsFor, refusal_in_rows}
 use Rattle.rib_owner.specs.Part.{IsKeptPart}
 use Rattle.rib_owner.specs.Rib.{Part, map_in}
 use Rattle.rib_owner.proofs.AnyOrder.{at_permuted, rows_alike_in, separable_alike, step_permuted}
-use Rattle.rib_owner.proofs.Rows.{left_is_free, length-entries}
-use Rattle.rib_owner.proofs.Steps.{step_known, step_most}
-use Rattle.rib_owner.proofs.Sums.{beside_below, from_same}
+use Rattle.group_search.proofs.NeededRows.{length-entries}
+use Rattle.rib_owner.proofs.Rows.{left_is_free}
+use Rattle.group_history.proofs.Steps.{step_known, step_most}
+use Rattle.group_search.proofs.Sums.{beside_below, from_same}
 
 -- ---- the same maps give the same grounds
 
@@ -36,7 +36,7 @@ unfolding keys_in
 keys_same maps others same = from_same (λ (x : ℕ). length (maps x)) (λ (x : ℕ). length (others x)) 64 0 (λ x low high. sym (length_permutation (maps x) (others x) (same x (omega arith))))
 
 free_same : (bits group : ℕ) (maps others : ℕ → List Flow) → ((x : ℕ) → x < 64 → IsPermutation (maps x) (others x)) → free_beside bits maps group ≡ free_beside bits others group
-unfolding free_beside
+unfolding rows_left
 free_same bits group maps others same =
     ap (λ (n : ℕ). 64 - n)
     (beside_below (λ (x : ℕ). rows_needed bits (entries (maps x))) (λ (x : ℕ). rows_needed bits (entries (others x))) group 64 0
@@ -64,21 +64,6 @@ lifted why whole Absent is lift = lift is
 lifted why whole (BlockFull block) is lift = lift is
 lifted why whole (RowsFull block needed free) is lift = lift is
 lifted why whole OutOfMemory is lift = tt
-
-module _ (update : Update) (on : Grounds) where
-  pub spent : on.turns ≡ 65535 → refusal update on ≡ Some (Spent 65535)
-  unfolding refusal
-  spent turns = rw (eq-eqb on.turns 65535 turns) refl
-
-  pub not_spent : on.turns ≢ 65535 → refusal update on ≡ option_or (refusal_of_place update on) (refusal_of_rows on)
-  unfolding refusal
-  not_spent turns = rw (ne_eqb on.turns 65535 turns) refl
-
-  pub for_place : on.turns ≢ 65535 → (refused : UpdateRefused) → refusal_of_place update on ≡ Some refused → refusal update on ≡ Some refused
-  for_place turns refused is = not_spent turns ∙ ap (λ (why : Option UpdateRefused). option_or why (refusal_of_rows on)) is
-
-  pub for_rows : on.turns ≢ 65535 → refusal_of_place update on ≡ None → refusal update on ≡ refusal_of_rows on
-  for_rows turns none = not_spent turns ∙ ap (λ (why : Option UpdateRefused). option_or why (refusal_of_rows on)) none
 
 -- ---- the rows, by what the block keeps
 

@@ -6,7 +6,7 @@ use Rattle.flow_types.specs.declared.record.Flow.{Flow}
 use Rattle.flow_types.specs.Map.{AreDistinct}
 use Rattle.group_search.specs.Build.{rows_needed}
 use Rattle.group_search.specs.Records.{entries}
-use Rattle.rib_owner.specs.Acceptance.{keys_in}
+use Rattle.group_history.specs.Acceptance.{keys_in}
 use Rattle.rib_owner.specs.Part.{IsKeptPart, rows_free}
 use Rattle.rib_owner.specs.Rib.{Part, map_in}
 use Rattle.rib_owner.proofs.Counted.{keys_with, map_beside, map_here, rows_apart, rows_beside, rows_here, rows_left_is, rows_with, with_map}

@@ -1,8 +1,10 @@
 -- Where a key can stand: in one bucket, and in the group of that bucket.
-use Rattle.std.proofs.Common.{ℕ, zero, suc, ◌≡◌, ◌≢◌, ◌∙◌, ◌+◌, ◌%◌, ◌≤◌, ◌<◌, Bool, true, false, Option, Some, None, List, [], ◌++◌, length, get_or, set, refl, sym, ap, arith, ⊎_elim}
+use Rattle.std.proofs.Common.{ℕ, zero, suc, ◌≡◌, ◌≢◌, ◌∙◌, ◌==◌, ◌+◌, ◌%◌, ◌≤◌, ◌<◌, Bool, true, false, Option, Some, None, List, [], ◌∷◌, ◌++◌, length, get_or, set, refl, sym, ap, arith, ⊎_elim, append-nil}
+use Rattle.std.specs.Prelude.{filter}
 use Rattle.std.specs.Option.{option_or}
 use Rattle.std.specs.List.{All}
-use Rattle.std.proofs.lemmas.Bool.{cases_eq}
+use Rattle.std.proofs.lemmas.Bool.{cases_eq, eq-eqb, ne_eqb}
+use Rattle.std.proofs.lemmas.List.Elements.{All-head, All-tail, filter-append}
 use Rattle.std.proofs.lemmas.List.{get_or-set_other, get_or-set_same}
 use Rattle.std.proofs.lemmas.List.Folds.{find-append}
 use Rattle.flow_types.specs.declared.key.FlowKey.{FlowKey}
@@ -86,3 +88,59 @@ module _ (buckets : List (List Flow)) (placed : ArePlaced buckets) (key : FlowKe
         (λ (other : from ≢ bucket_for key).
         found-rest from n (goes_there choices group from) (not_elsewhere from other) ∙ found n (from + 1) here (omega arith) (omega arith))
         (cases_eq from (bucket_for key))
+
+-- ---- the flows of one bucket among those of its group
+
+module _ (buckets : List (List Flow)) (placed : ArePlaced buckets) (bucket : ℕ) where
+  abbrev pub stands_there : Flow → Bool
+  stands_there flow = bucket_for flow.key == bucket
+
+  all_stand : (flows : List Flow) → All (λ (flow : Flow). bucket_for flow.key ≡ bucket) flows → filter stands_there flows ≡ flows
+  all_stand [] all = refl
+  all_stand (flow ∷ flows) all =
+      rw (
+        eq-eqb (bucket_for flow.key) bucket (All-head (λ (f : Flow). bucket_for f.key ≡ bucket) flow flows all),
+        all_stand flows (All-tail (λ (f : Flow). bucket_for f.key ≡ bucket) flow flows all),
+      )
+      refl
+
+  none_stand : (x : ℕ) → x ≢ bucket → (flows : List Flow) → All (λ (flow : Flow). bucket_for flow.key ≡ x) flows → filter stands_there flows ≡ []
+  none_stand x other [] all = refl
+  none_stand x other (flow ∷ flows) all =
+      rw (
+        ne_eqb (bucket_for flow.key) bucket (λ same. other (sym (All-head (λ (f : Flow). bucket_for f.key ≡ x) flow flows all) ∙ same)),
+        none_stand x other flows (All-tail (λ (f : Flow). bucket_for f.key ≡ x) flow flows all),
+      )
+      refl
+
+  module _ (choices : List ℕ) (group : ℕ) where
+    standing-rest : (from n : ℕ) (here : Bool) → from ≢ bucket
+        → filter stands_there (and_rest choices group here (in_bucket buckets from) (flows_from choices group buckets (from + 1) n))
+        ≡ filter stands_there (flows_from choices group buckets (from + 1) n)
+    standing-rest from n true other =
+        filter-append stands_there (in_bucket buckets from) (flows_from choices group buckets (from + 1) n)
+        ∙ ap (λ (l : List Flow). l ++ filter stands_there (flows_from choices group buckets (from + 1) n)) (none_stand from other (in_bucket buckets from) (placed from))
+    standing-rest from n false other = refl
+
+    standing-past : (n from : ℕ) → bucket < from → filter stands_there (flows_from choices group buckets from n) ≡ []
+    standing-past zero from past = refl
+    standing-past (suc n) from past =
+        ap (filter stands_there) (one_more choices group buckets from n)
+        ∙ standing-rest from n (goes_there choices group from) (λ e. omega arith)
+        ∙ standing-past n (from + 1) (omega arith)
+
+    pub standing : (n from : ℕ) → goes_there choices group bucket ≡ true → from ≤ bucket → bucket < from + n
+        → filter stands_there (flows_from choices group buckets from n) ≡ in_bucket buckets bucket
+    standing zero from here low high = absurd (omega arith)
+    standing (suc n) from here low high =
+        ap (filter stands_there) (one_more choices group buckets from n)
+        ∙ ⊎_elim
+        (λ (same : from ≡ bucket).
+        rw (same, here)
+        (filter-append stands_there (in_bucket buckets bucket) (flows_from choices group buckets (bucket + 1) n)
+        ∙ ap (λ (l : List Flow). filter stands_there (in_bucket buckets bucket) ++ l) (standing-past n (bucket + 1) (omega arith))
+        ∙ append-nil (filter stands_there (in_bucket buckets bucket))
+        ∙ all_stand (in_bucket buckets bucket) (placed bucket)))
+        (λ (other : from ≢ bucket).
+        standing-rest from n (goes_there choices group from) other ∙ standing n (from + 1) here (omega arith) (omega arith))
+        (cases_eq from bucket)

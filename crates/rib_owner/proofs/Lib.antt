@@ -1,4 +1,3 @@
-pub mod Sums
 pub mod Buckets
 pub mod KeysBucket
 pub mod GroupMaps
@@ -8,7 +7,6 @@ pub mod Lookups
 pub mod Placed
 pub mod GatheredSoFar
 pub mod EmptyBlock
-pub mod Steps
 pub mod Counted
 pub mod Gathered
 pub mod Rows
@@ -17,8 +15,8 @@ pub mod Judged
 pub mod Kept
 pub mod Standing
 pub mod Filled
-pub mod OneCase
 pub mod Answering
 pub mod Accepting
+pub mod Committing
 pub mod Removed
 mod Settled

@@ -2,24 +2,21 @@
 use Rattle.std.proofs.Common.{ℕ, ◌≡◌, ◌∙◌, ◌-◌, ◌≤◌, ◌<◌, Bool, true, false, cond, List, length, get_or, Some, None, refl, ap, arith}
 use Rattle.std.specs.Prelude.{nat_lt}
 use Rattle.std.proofs.lemmas.Bool.{le-ltb, lt-ltb}
-use Rattle.std.proofs.lemmas.List.{length-map}
 use Rattle.flow_types.specs.declared.record.Flow.{Flow}
 use Rattle.group_search.specs.declared.entry.Entry.{Entry}
-use Rattle.group_search.specs.Build.{rows_needed}
+use Rattle.group_search.specs.Build.{rows_needed, rows_left}
 use Rattle.group_search.specs.Canon.{is_separable}
-use Rattle.group_search.specs.Records.{entries, entry_of}
+use Rattle.group_search.specs.Records.{entries}
 use Rattle.group_history.specs.declared.change.Change.{Change}
 use Rattle.group_history.specs.Change.{step}
-use Rattle.rib_owner.specs.declared.refused.UpdateRefused.TheVariants.{RowsFull}
-use Rattle.rib_owner.specs.Acceptance.{free_beside}
+use Rattle.group_history.specs.declared.refused.UpdateRefused.TheVariants.{RowsFull}
+use Rattle.group_history.specs.Acceptance.{free_beside}
 use Rattle.rib_owner.specs.Judging.{refusal_in_rows}
 use Rattle.rib_owner.specs.Part.{IsKeptPart, rows_free}
 use Rattle.rib_owner.specs.Rib.{Part, map_in}
 use Rattle.rib_owner.proofs.Counted.{rows_left_is}
-use Rattle.rib_owner.proofs.Sums.{beside_below}
-
-pub length-entries : (flows : List Flow) → length (entries flows) ≡ length flows
-length-entries flows = length-map flows entry_of
+use Rattle.group_search.proofs.Sums.{beside_below}
+use Rattle.group_search.proofs.NeededRows.{length-entries}
 
 needed_all-case : (served : Bool) (n : ℕ) → 0 < cond served 0 n → cond served 0 n ≡ n
 needed_all-case true n some = absurd (omega arith)
@@ -52,7 +49,7 @@ module _ (bits : ℕ) (part : Part) (change : Change) where
 
 -- the rows that are left beside a group are those that the other groups don't need
 pub left_is_free : (bits : ℕ) (part : Part) (group : ℕ) → IsKeptPart bits part → rows_free part group ≡ free_beside bits (map_in part) group
-unfolding free_beside
+unfolding rows_left
 left_is_free bits part group kept =
     rows_left_is part group
     ∙ ap (λ (n : ℕ). 64 - n)

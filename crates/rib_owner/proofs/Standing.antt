@@ -12,7 +12,8 @@ use Rattle.group_search.specs.Home.{Home, opening}
 use Rattle.group_history.specs.declared.change.Change.{Change}
 use Rattle.group_history.specs.Change.{concerns, step}
 use Rattle.group_history.proofs.Versions.{now_other, now_own}
-use Rattle.rib_owner.specs.Rib.{IsPartOf, IsRibOf, Part, Rib, map_in, map_now, no_part, part_of}
+use Rattle.group_history.specs.History.{map_now}
+use Rattle.rib_owner.specs.Rib.{IsPartOf, IsRibOf, Part, Rib, map_in, no_part, part_of}
 use Rattle.rib_owner.proofs.AnyOrder.{distinct_permuted, step_permuted}
 use Rattle.rib_owner.proofs.Counted.{map_beside, map_here, with_map}
 

@@ -4,8 +4,8 @@ use Rattle.group_search.specs.Build.{rows_needed}
 use Rattle.group_search.specs.Records.{entries}
 use Rattle.group_history.specs.declared.change.Change.{Change}
 use Rattle.group_history.specs.Change.{step}
-use Rattle.rib_owner.specs.declared.refused.UpdateRefused.{UpdateRefused}
-use Rattle.rib_owner.specs.declared.refused.UpdateRefused.TheVariants.{Spent, Absent, BlockFull, RowsFull, OutOfMemory}
+use Rattle.group_history.specs.declared.refused.UpdateRefused.{UpdateRefused}
+use Rattle.group_history.specs.declared.refused.UpdateRefused.TheVariants.{Spent, Absent, BlockFull, RowsFull, OutOfMemory}
 use Rattle.rib_owner.specs.Part.{rows_free}
 use Rattle.rib_owner.specs.Rib.{Part, map_in}
 

@@ -1,7 +1,7 @@
 pub mod Rib
-pub mod Acceptance
 pub mod Turn
 pub mod Part
 pub mod Judging
 pub mod Stock
+pub mod Decision
 pub mod Opening

@@ -5,7 +5,7 @@ use Rattle.flow_types.specs.Size.{Size, value_bits}
 use Rattle.group_search.specs.Build.{rows_needed}
 use Rattle.group_search.specs.Home.{choices, flows_of, home, is_home, opening}
 use Rattle.group_search.specs.Records.{entries}
-use Rattle.rib_owner.specs.Acceptance.{keys_in}
+use Rattle.group_history.specs.Acceptance.{keys_in}
 use Rattle.rib_owner.specs.Rib.{Part, map_in, no_part}
 
 -- the flows among those read whose keys have this home, in their order

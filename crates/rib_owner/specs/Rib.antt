@@ -6,9 +6,9 @@ use Rattle.flow_types.specs.declared.record.Record.{Record}
 use Rattle.flow_types.specs.Map.{flow_at}
 use Rattle.flow_types.specs.Size.{Size}
 use Rattle.hash_family.specs.Hash.{place}
-use Rattle.group_search.specs.Home.{Home, choices, group_of, opening}
+use Rattle.group_search.specs.Home.{choices, group_of}
 use Rattle.group_history.specs.declared.change.Change.{Change}
-use Rattle.group_history.specs.History.{now}
+use Rattle.group_history.specs.History.{map_now}
 use Rattle.group_history.specs.Journal.{Log}
 
 -- a block of an owner: the choice of each bucket, the map of each group, and how many rows each group takes
@@ -52,10 +52,6 @@ found_in rib key =
 -- a flow's node and record
 abbrev pub node_and_record : Flow → ℕ × Record
 node_and_record flow = (flow.node, flow.info)
-
--- the map of a group after these changes of its owner's journal, where the cluster was opened with these flows
-unfoldable pub map_now : Size → List Flow → List Change → Home → List Flow
-map_now size flows changes at = now (opening size.blocks flows at) changes at
 
 -- a block whose buckets have the groups that the flows give them, and whose groups have the flows of their maps after the
 -- changes, in some order

@@ -32,6 +32,10 @@ maps_of choices buckets = map (flows_in choices buckets) (range_with_len 0 64)
 abbrev pub part_in : Stock → Part
 part_in stock = record { choices = stock.choices; maps = maps_of stock.choices stock.arena.buckets; rows = stock.rows }
 
+-- the flows of a group of the block that stand in this bucket, in their order
+abbrev pub standing_in : Part → (group bucket : ℕ) → List Flow
+standing_in part group bucket = filter (λ (flow : Flow). bucket_for flow.key == bucket) (map_in part group)
+
 -- no group but this one has another map
 abbrev pub ChangesGroup : (before after : Part) → (group : ℕ) → Type 0
 ChangesGroup before after group = after.maps ≡ slice_set before.maps group (map_in after group)

@@ -7,14 +7,14 @@ use Rattle.group_search.specs.Home.{home}
 use Rattle.group_search.specs.Records.{content_of}
 use Rattle.group_history.specs.declared.change.Change.{Change}
 use Rattle.group_history.specs.Change.{step}
-use Rattle.rib_owner.specs.declared.update.Update.{Update}
-use Rattle.rib_owner.specs.declared.update.Update.TheVariants.{Set, Del}
+use Rattle.group_history.specs.declared.update.Update.{Update}
+use Rattle.group_history.specs.declared.update.Update.TheVariants.{Set, Del}
 use Rattle.rib_owner.specs.declared.turn.Turn.{Turn}
 use Rattle.rib_owner.specs.declared.turn.FibPlan.{FibPlan}
-use Rattle.rib_owner.specs.declared.refused.UpdateRefused.{UpdateRefused}
-use Rattle.rib_owner.specs.Acceptance.{change_of, grounds, updated_key, refusal}
+use Rattle.group_history.specs.declared.refused.UpdateRefused.{UpdateRefused}
+use Rattle.group_history.specs.Acceptance.{change_of, grounds, updated_key, refusal}
 use Rattle.rib_owner.specs.Judging.{IsFor}
-use Rattle.rib_owner.specs.Rib.{map_now}
+use Rattle.group_history.specs.History.{map_now}
 
 -- the node that the key leaves: the one where it was, unless that is where it goes
 abbrev pub node_left : Update → Option Flow → Option ℕ

@@ -7,10 +7,11 @@ ghost use Rattle.group_search.specs.Canon.{rows_in};
 ghost use Rattle.group_search.specs.Home.{group_of};
 ghost use Rattle.group_search.specs.Records.{entries};
 ghost use Rattle.group_history.specs.Change.{step};
-ghost use Rattle.rib_owner.specs.Acceptance.{keys_in};
+ghost use Rattle.group_history.specs.Acceptance.{keys_in};
 ghost use Rattle.rib_owner.specs.Part.{rows_free, rows_taken};
 ghost use Rattle.rib_owner.specs.Rib.{map_in};
-ghost use Rattle.rib_owner.specs.Stock.{ChangesGroup, bucket_for, flows_in, part_in};
+ghost use Rattle.rib_owner.specs.Stock.{ChangesGroup, bucket_for, flows_in, part_in, standing_in};
+ghost use Rattle.rib_owner.specs.Decision.{IsFoundAt};
 
 use crate::gathering::{add_others, entry};
 use crate::item::Item;
@@ -63,8 +64,8 @@ pub(crate) fn flow_of(found: Option<Found>) -> Option<Flow>
 }
 
 impl OwnedBlock {
-    /// The block of an image without its flows, which are still to be pushed: it has room for so many. Its groups take
-    /// the rows that the image says.
+    /// The block of an image without its flows, which are still to be pushed: it has room for `room` of them. Its
+    /// groups take the rows that the image says.
     pub(crate) fn open(
         alloc: Global,
         image: &BlockImage,
@@ -154,7 +155,7 @@ impl OwnedBlock {
     pub(crate) fn find(&self, bucket: u8, key: FlowKey) -> Option<Found>
         requires { bucket_for key ≡ bucket }
         ensures flow { option_map (λ found. found.flow) result ≡ flow_at key (bucket_of self.now.arena bucket) }
-        ensures place { IfSome result (λ found. slice_get (bucket_of self.now.arena bucket) found.place ≡ Some found.flow) }
+        ensures place { IfSome result (λ found. slice_get (standing_in (part_in self.now) (group_of self.now.choices bucket) bucket) found.place ≡ Some found.flow) }
         ensures in_group { flow_at key (bucket_of self.now.arena bucket) ≡ flow_at key (map_in (part_in self.now) (group_of self.now.choices bucket)) }
     {
         // As in `push`.
@@ -229,8 +230,7 @@ impl OwnedBlock {
     /// takes then. There is room for one more flow.
     pub(crate) fn change(&mut self, bucket: u8, found: Option<Found>, change: &Change, rows: u8)
         requires bucket { bucket_for change.now.key ≡ bucket }
-        requires flow { option_map (λ found. found.flow) found ≡ flow_at change.now.key (bucket_of self.old.arena bucket) }
-        requires place { IfSome found (λ found. slice_get (bucket_of self.old.arena bucket) found.place ≡ Some found.flow) }
+        requires found { IsFoundAt (part_in self.old) (group_of self.old.choices bucket) bucket change.now.key found }
         requires distinct { AreDistinct (map_in (part_in self.old) (group_of self.old.choices bucket)) }
         requires few { keys_in (map_in (part_in self.old)) ≤ 1536 }
         requires few_rows { rows_taken (part_in self.old) ≤ 64 }

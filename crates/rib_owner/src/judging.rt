@@ -6,17 +6,15 @@ ghost use Rattle.flow_types.specs.Size.{most_value_bits};
 ghost use Rattle.group_search.specs.Canon.{canonical, rows_in};
 ghost use Rattle.group_search.specs.Records.{entries};
 ghost use Rattle.group_history.specs.Change.{step};
-ghost use Rattle.rib_owner.specs.Acceptance.{change_at, grounds_in, refusal_of_place, updated_key};
+ghost use Rattle.group_history.specs.Acceptance.{change_at, grounds_in, refusal_of_place, updated_key};
 ghost use Rattle.rib_owner.specs.Judging.{Follows, refusal_in_rows};
 ghost use Rattle.rib_owner.specs.Part.{IsKeptPart, rows_free};
 ghost use Rattle.rib_owner.specs.Rib.{map_in};
 ghost use Rattle.rib_owner.specs.Stock.{part_in};
 
 use crate::block::OwnedBlock;
-use crate::refused::UpdateRefused;
-use crate::update::Update;
 use flow_types::Flow;
-use group_history::Change;
+use group_history::{Change, Update, UpdateRefused};
 use group_search::{Entry, GroupRecord, MOST_ENTRIES, canon};
 
 /// Refuses to remove a key that isn't there, and to set a new one in a full block. `before` is what was found at the key.

@@ -49,7 +49,7 @@ impl Owner {
     }
 }
 
-/// For how many flows each of so many blocks makes room at first: an eighth more than their mean.
+/// For how many flows each block makes room at first: an eighth more than their mean.
 fn likely_flows(flows: usize, blocks: u16) -> u32
     ensures { result ≤ 1536 }
 {

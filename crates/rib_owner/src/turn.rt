@@ -1,9 +1,8 @@
 ghost use Rattle.std.specs.Prelude.{◌≡◌};
 ghost use Rattle.rib_owner.specs.Turn.{plan_of};
 
-use crate::update::Update;
 use flow_types::Flow;
-use group_history::Change;
+use group_history::{Change, Update};
 use group_search::GroupRecord;
 
 /// Which nodes change their records for a turn.

@@ -1,10 +1,11 @@
-//! A caller of the library: it builds the keyless table of three flows in a cluster of four nodes, and routes five keys.
+//! A caller of the library: it reads flows from standard input, a line `PORT NODE` each, builds their keyless table for a
+//! cluster of four nodes, and routes five keys.
 //!
-//! Proved: the flows are as `build` asks, with distinct keys and handlers among the nodes. Only tested: what is printed.
+//! Proved: whatever the lines say, `build` is asked for a map, with distinct keys and handlers among the nodes. Only tested:
+//! what is printed.
 #![tactic(auto)]
 
-ghost use Rattle.std.specs.Prelude.{◌≡◌};
-
+use flow_reader::FlowMap;
 use flow_types::{Flow, FlowKey, Record, Shape};
 use group_search::BlockImage;
 use hash_family::place;
@@ -15,8 +16,18 @@ fn main(rt: HostRuntime) -> io::Result<()> {
     let Some(shape) = Shape::new(4, 1) else {
         unreachable!()
     };
-    let flows = [flow(key(1000), 2), flow(key(1001), 1), flow(key(1002), 3)];
-    let images = match build(&rt, rt.alloc(), shape, &flows, 1) {
+    let mut flows = Vec::new(rt.alloc());
+    'lines: for line in rt.lines(rt.alloc()) {
+        match flow_of(line?.as_str()) {
+            Some(flow) => flows.push(flow)?,
+            None => return println!(rt; "a line that isn't a port and a node"),
+        }
+    }
+    let map = match FlowMap::of(rt.alloc(), shape, &flows) {
+        Ok(map) => map,
+        Err(refused) => return println!(rt; "{refused}"),
+    };
+    let images = match build(&rt, rt.alloc(), map.shape(), map.flows(), 1) {
         Ok(images) => images,
         Err(BuildRefused::OutOfMemory) => return println!(rt; "out of memory"),
         Err(_) => return println!(rt; "a block of the table is past a limit"),
@@ -39,15 +50,7 @@ fn node_of(images: &[BlockImage], shape: Shape, key: FlowKey) -> Option<u8> {
 }
 
 /// The key of packets from this port of 10.0.0.1 to port 443 of 192.0.2.7 by TCP.
-fn key(source_port: u16) -> FlowKey
-    ensures { result ≡ record {
-      source = 0x0A000001;
-      destination = 0xC0000207;
-      source_port = source_port;
-      destination_port = 443;
-      protocol = 6;
-    } }
-{
+fn key(source_port: u16) -> FlowKey {
     FlowKey {
         source: 0x0A00_0001,
         destination: 0xC000_0207,
@@ -57,14 +60,14 @@ fn key(source_port: u16) -> FlowKey
     }
 }
 
-/// The flow with this key, which this node handles.
-fn flow(key: FlowKey, node: u8) -> Flow
-    ensures key { result.key ≡ key }
-    ensures node { result.node ≡ node }
-{
+/// The flow that a line says: the port of its key, and the node that handles it.
+fn flow_of(line: &str) -> Option<Flow> {
+    let (port, node) = line.split_once(' ')?;
+    let key = key(port.parse().ok()?);
+    let node = node.parse().ok()?;
     let info = Record {
         teid: 77,
         base: 0xC0A8_0009,
     };
-    Flow { key, node, info }
+    Some(Flow { key, node, info })
 }

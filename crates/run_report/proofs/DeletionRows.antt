@@ -9,35 +9,34 @@ use Rattle.flow_types.specs.declared.record.Flow.{Flow}
 use Rattle.flow_types.specs.Size.{Size, value_bits}
 use Rattle.hash_family.specs.Hash.{place}
 use Rattle.block_layout.specs.Candidate.{candidate}
-use Rattle.group_search.specs.Build.{TellsTheFirst, needed, past_limit, rows_needed}
+use Rattle.group_search.specs.Build.{TellsTheFirst, needed, past_limit, rows_needed, rows_left}
 use Rattle.group_search.specs.Canon.{is_separable}
 use Rattle.group_search.specs.Home.{Home, home, opening}
 use Rattle.group_search.specs.Records.{entries}
 use Rattle.group_search.proofs.FirstPastLimit.{names_the_first}
 use Rattle.group_history.specs.declared.change.Change.{Change}
 use Rattle.group_history.specs.Change.{concerns, step}
-use Rattle.group_history.specs.History.{changed, now}
+use Rattle.group_history.specs.History.{changed, now, map_now}
 use Rattle.group_history.specs.Journal.{concerning}
 use Rattle.group_history.proofs.Versions.{now_other, now_own}
 use Rattle.packet_reader.specs.declared.event.Event.{Event}
 use Rattle.packet_reader.specs.declared.event.Event.TheVariants.{Set, Del, Packet, Carry, Sync}
-use Rattle.rib_owner.specs.declared.refused.UpdateRefused.{UpdateRefused}
-use Rattle.rib_owner.specs.declared.refused.UpdateRefused.TheVariants.{RowsFull}
-use Rattle.rib_owner.specs.declared.update.Update.{Update}
-use Rattle.rib_owner.specs.declared.update.Update.TheVariants as update
-use Rattle.rib_owner.specs.Acceptance.{Grounds, IsAccepted, IsRowsFull, change_of, free_beside, grounds, grounds_in, refusal, updated_key}
-use Rattle.rib_owner.specs.Rib.{map_now}
-use Rattle.rib_owner.proofs.OneCase.{one_case}
-use Rattle.rib_owner.proofs.Removed.{fewer_rows, removed}
-use Rattle.rib_owner.proofs.Rows.{length-entries}
-use Rattle.rib_owner.proofs.Steps.{step_removed}
-use Rattle.rib_owner.proofs.Sums.{beside_same, from_same, sum_apart, sum_beside, sum_from}
-use Rattle.replay_model.specs.declared.reply.Reply.{Reply}
-use Rattle.replay_model.specs.declared.reply.Reply.TheVariants.{Refused}
-use Rattle.replay_model.specs.Allowed.{AllowedFrom, Moment, beginning, phase_end}
-use Rattle.replay_model.specs.Carrying.{after_carry, after_sync}
-use Rattle.replay_model.specs.State.{ClusterOpening, Journals, journal_of}
-use Rattle.replay_model.specs.Updates.{after_update, journals_by, reply_by, update_owner, update_reply, verdict}
+use Rattle.group_history.specs.declared.refused.UpdateRefused.{UpdateRefused}
+use Rattle.group_history.specs.declared.refused.UpdateRefused.TheVariants.{RowsFull}
+use Rattle.group_history.specs.declared.update.Update.{Update}
+use Rattle.group_history.specs.declared.update.Update.TheVariants as update
+use Rattle.group_history.specs.Acceptance.{Grounds, IsAccepted, IsRowsFull, change_of, free_beside, grounds, grounds_in, refusal, updated_key}
+use Rattle.group_history.proofs.OneCase.{one_case}
+use Rattle.group_history.proofs.Removed.{fewer_rows, removed}
+use Rattle.group_search.proofs.NeededRows.{length-entries}
+use Rattle.group_history.proofs.Steps.{step_removed}
+use Rattle.group_search.proofs.Sums.{beside_same, from_same, sum_apart, sum_beside, sum_from}
+use Rattle.run_model.specs.declared.reply.Reply.{Reply}
+use Rattle.run_model.specs.declared.reply.Reply.TheVariants.{Refused}
+use Rattle.run_model.specs.Allowed.{AllowedFrom, Moment, beginning, phase_end}
+use Rattle.run_model.specs.Carrying.{after_carry, after_sync}
+use Rattle.run_model.specs.State.{ClusterOpening, Journals, journal_of}
+use Rattle.run_model.specs.Updates.{after_update, journals_by, reply_by, update_owner, update_reply, verdict}
 use Rattle.run_report.specs.Law.{DeletionsHaveRows, IsNotShortOfRows}
 use Rattle.run_report.proofs.EventKinds.{goes_on}
 
@@ -82,7 +81,7 @@ module _ (size : Size) (flows : List Flow) where
 
     -- the rows that the block's other groups leave
     free_is : on.free ≡ 64 - beside
-    unfolding grounds grounds_in free_beside
+    unfolding grounds grounds_in rows_left
     free_is = refl
 
     -- the rows that the group's new map needs

@@ -4,18 +4,18 @@ use Rattle.packet_reader.specs.declared.event.Event.{Event}
 use Rattle.packet_reader.specs.declared.event.Event.TheVariants.{Set, Del, Packet, Carry, Sync}
 use Rattle.flow_types.specs.declared.key.FlowKey.{FlowKey}
 use Rattle.flow_types.specs.declared.record.Flow.{Flow}
-use Rattle.rib_owner.specs.declared.refused.UpdateRefused.{UpdateRefused}
-use Rattle.rib_owner.specs.declared.refused.UpdateRefused.TheVariants.{Spent, Absent, BlockFull, RowsFull, OutOfMemory}
-use Rattle.rib_owner.specs.declared.update.Update.{Update}
-use Rattle.rib_owner.specs.declared.update.Update.TheVariants as update
-use Rattle.rib_owner.specs.Acceptance.{ComesTo, Grounds, grounds}
-use Rattle.rib_owner.proofs.OneCase.{one_case}
-use Rattle.replay_model.specs.declared.reply.Reply.{Reply}
-use Rattle.replay_model.specs.declared.reply.Reply.TheVariants.{Found, Unknown, Nowhere, Applied, RepeatHave, EarlyHave, Unsent}
-use Rattle.replay_model.specs.Allowed.{Allowed, AllowedFrom, Moment, PathThen, beginning, phase_end}
-use Rattle.replay_model.specs.Carrying.{after_carry, after_sync, carry_reply, turns_taken}
-use Rattle.replay_model.specs.State.{ClusterOpening, Journals, journal_of}
-use Rattle.replay_model.specs.Updates.{after_update, reply_by, update_owner, update_reply, verdict}
+use Rattle.group_history.specs.declared.refused.UpdateRefused.{UpdateRefused}
+use Rattle.group_history.specs.declared.refused.UpdateRefused.TheVariants.{Spent, Absent, BlockFull, RowsFull, OutOfMemory}
+use Rattle.group_history.specs.declared.update.Update.{Update}
+use Rattle.group_history.specs.declared.update.Update.TheVariants as update
+use Rattle.group_history.specs.Acceptance.{ComesTo, Grounds, grounds}
+use Rattle.group_history.proofs.OneCase.{one_case}
+use Rattle.run_model.specs.declared.reply.Reply.{Reply}
+use Rattle.run_model.specs.declared.reply.Reply.TheVariants.{Found, Unknown, Nowhere, Applied, RepeatHave, EarlyHave, Unsent}
+use Rattle.run_model.specs.Allowed.{Allowed, AllowedFrom, Moment, PathThen, beginning, phase_end}
+use Rattle.run_model.specs.Carrying.{after_carry, after_sync, carry_reply, turns_taken}
+use Rattle.run_model.specs.State.{ClusterOpening, Journals, journal_of}
+use Rattle.run_model.specs.Updates.{after_update, reply_by, update_owner, update_reply, verdict}
 use Rattle.run_report.specs.Report.{AreOfTheirEvents, IsOfCarry, IsOfEvent, IsOfPacket}
 
 -- ---- updates

@@ -8,6 +8,7 @@ use Rattle.flow_types.specs.declared.key.FlowKey.{FlowKey}
 use Rattle.flow_types.specs.declared.record.Flow.{Flow}
 use Rattle.flow_types.specs.declared.record.Record.{Record}
 use Rattle.flow_types.specs.Map.{Knows, put, without}
+use Rattle.flow_types.specs.Limits.{most_turns}
 use Rattle.group_search.specs.Home.{opening}
 use Rattle.group_history.specs.declared.change.Change.{Change}
 use Rattle.group_history.specs.Change.{concerns, flow_to, step, with_at}
@@ -17,16 +18,16 @@ use Rattle.group_history.specs.Routes.{Route}
 use Rattle.group_history.proofs.Versions.{version_is}
 use Rattle.packet_reader.specs.declared.event.Event.{Event}
 use Rattle.packet_reader.specs.declared.event.Event.TheVariants.{Set, Del, Packet, Carry, Sync}
-use Rattle.rib_owner.specs.declared.refused.UpdateRefused.{UpdateRefused}
-use Rattle.rib_owner.specs.declared.update.Update.{Update}
-use Rattle.rib_owner.specs.declared.update.Update.TheVariants as update
-use Rattle.rib_owner.specs.Acceptance.{IsAccepted, change_of, grounds, grounds_in}
-use Rattle.rib_owner.proofs.OneCase.{one_case}
-use Rattle.replay_model.specs.declared.reply.Reply.{Reply}
-use Rattle.replay_model.specs.declared.reply.Reply.TheVariants.{Found, Unknown, Nowhere}
-use Rattle.replay_model.specs.Allowed.{IsAnswered, IsAtVersion, IsSeen, Moment, PathThen, changes_of_key, phase_end}
-use Rattle.replay_model.specs.State.{ClusterOpening, Journals, home_of_key, journal_of, owner_of_group}
-use Rattle.replay_model.specs.Updates.{after_update, journals_by, update_owner, verdict}
+use Rattle.group_history.specs.declared.refused.UpdateRefused.{UpdateRefused}
+use Rattle.group_history.specs.declared.update.Update.{Update}
+use Rattle.group_history.specs.declared.update.Update.TheVariants as update
+use Rattle.group_history.specs.Acceptance.{IsAccepted, change_of, grounds, grounds_in}
+use Rattle.group_history.proofs.OneCase.{one_case}
+use Rattle.run_model.specs.declared.reply.Reply.{Reply}
+use Rattle.run_model.specs.declared.reply.Reply.TheVariants.{Found, Unknown, Nowhere}
+use Rattle.run_model.specs.Allowed.{IsAnswered, IsAtVersion, IsSeen, Moment, PathThen, changes_of_key, phase_end}
+use Rattle.run_model.specs.State.{ClusterOpening, Journals, home_of_key, journal_of, owner_of_group}
+use Rattle.run_model.specs.Updates.{after_update, journals_by, update_owner, verdict}
 use Rattle.run_report.specs.Law.{FlowFits, SetFits}
 use Rattle.run_report.proofs.SameLine.{IsShort, IsShortRecord}
 
@@ -57,7 +58,7 @@ fits-changed flows (change ∷ changes) all each =
 
 -- no more changes than turns, and each fits its types
 pub record IsShortJournal (changes : List Change) : Type 0 where
-  pub few : length changes ≤ 65535
+  pub few : length changes ≤ most_turns
   pub each : All ChangeFits changes
 
 no_changes : IsShortJournal []
@@ -78,7 +79,7 @@ short_none nodes = All-replicate IsShortJournal nodes [] no_changes
 
 module _ (opened : ClusterOpening) where
   -- an update that is accepted leaves room for its turn
-  room_for_turn : (journals : Journals) (update : Update) → verdict opened journals update ≡ None → length (journal_of journals (update_owner opened update)) ≢ 65535
+  room_for_turn : (journals : Journals) (update : Update) → verdict opened journals update ≡ None → length (journal_of journals (update_owner opened update)) ≢ most_turns
   unfolding grounds grounds_in
   room_for_turn journals update none =
       let on = grounds opened.size opened.flows (journal_of journals (update_owner opened update)) update in
@@ -120,7 +121,7 @@ module _ (opened : ClusterOpening) where
 
   -- ---- replies
 
-  module _ (nodes_few : opened.size.nodes < 2 ^ 8) (all : All FlowFits opened.flows) (end : Journals) (short : AreShort end) (key : FlowKey) where
+  module _ (nodes_few : opened.size.nodes ≤ 2 ^ 8) (all : All FlowFits opened.flows) (end : Journals) (short : AreShort end) (key : FlowKey) where
     abbrev changes : List Change
     changes = changes_of_key opened end key
 
@@ -167,7 +168,7 @@ module _ (opened : ClusterOpening) where
     short_record : (lanes : ℕ) (m : Moment) (node fib cut : ℕ) (info : Record) → IsAnswered opened lanes m end key node fib cut (Some info) → IsShortRecord info
     short_record lanes m node fib cut info is =
         let fits = All-contains FlowFits is.flows (record { key = key; node = node; info = info }) (map_fits fib is.flows is.at) is.answers in
-        record { teid = omega (arith, fits.teid); base = fits.base }
+        record { teid = omega (arith, fits.record_value.teid); base = fits.record_value.base }
 
     -- the numbers of an allowed reply to a packet of this key are ones that texts tell apart
     pub short_path : (lanes : ℕ) (m : Moment) (ingress : ℕ) (reply : Reply) (Rest : Moment → Type 0) → PathThen opened lanes m end ingress key reply Rest → IsShort reply

@@ -5,6 +5,6 @@ mod Fields
 mod Addresses
 mod SameLine
 mod Fitting
-mod OneRun
+pub mod OneRun
 mod WorkedRows
 mod DeletionRows

@@ -3,7 +3,7 @@ use Rattle.std.proofs.Common.{ℕ, zero, suc, ◌≡◌, ◌∙◌, ◌+◌, ◌
 use Rattle.std.proofs.lemmas.List.{at_drop_more, at_drop_all}
 use Rattle.packet_reader.specs.declared.event.Event.{Event}
 use Rattle.packet_reader.specs.declared.event.Event.TheVariants.{Packet}
-use Rattle.replay_model.specs.declared.reply.Reply.{Reply}
+use Rattle.run_model.specs.declared.reply.Reply.{Reply}
 use Rattle.run_report.specs.Report.{AreOfTheirEvents, IsOfEvent, line, lines, packets_with}
 
 -- ---- one reply for each event

@@ -1,15 +1,15 @@
 -- A printed text has one list of replies.
-use Rattle.std.proofs.Common.{◌≡◌, ◌∙◌, ◌^◌, ◌<◌, ℕ, List, [], ◌∷◌, ◌++◌, All, length, refl, sym, ap, subst, append_assoc}
+use Rattle.std.proofs.Common.{◌≡◌, ◌∙◌, ◌^◌, ◌≤◌, ℕ, List, [], ◌∷◌, ◌++◌, All, length, refl, sym, ap, subst, append_assoc}
 use Rattle.std.proofs.lemmas.List.{append_cancel_left}
 use Rattle.std.proofs.lemmas.List.Elements.{All-head, All-tail}
 use Rattle.packet_reader.specs.declared.event.Event.{Event}
 use Rattle.packet_reader.specs.declared.event.Event.TheVariants.{Set, Del, Packet, Carry, Sync}
-use Rattle.rib_owner.specs.declared.update.Update.TheVariants as update
-use Rattle.replay_model.specs.declared.reply.Reply.{Reply}
-use Rattle.replay_model.specs.Allowed.{AllowedFrom, Moment, beginning, phase_end}
-use Rattle.replay_model.specs.Carrying.{after_carry, after_sync, carry_reply, turns_taken}
-use Rattle.replay_model.specs.State.{ClusterOpening, Journals, journal_of}
-use Rattle.replay_model.specs.Updates.{after_update, update_reply}
+use Rattle.group_history.specs.declared.update.Update.TheVariants as update
+use Rattle.run_model.specs.declared.reply.Reply.{Reply}
+use Rattle.run_model.specs.Allowed.{AllowedFrom, Moment, beginning, phase_end}
+use Rattle.run_model.specs.Carrying.{after_carry, after_sync, carry_reply, turns_taken}
+use Rattle.run_model.specs.State.{ClusterOpening, Journals, journal_of}
+use Rattle.run_model.specs.Updates.{after_update, update_reply}
 use Rattle.run_report.specs.Law.{FlowFits, OneReportOneRun, SetFits}
 use Rattle.run_report.specs.Report.{line, lines, packets_with, report}
 use Rattle.run_report.proofs.EventKinds.{goes_on}
@@ -47,7 +47,7 @@ no_replies opened lanes m (Packet ingress key) script allowed = allowed
 no_replies opened lanes m (Carry node owner turn part) script allowed = allowed
 no_replies opened lanes m Sync script allowed = allowed
 
-module _ (opened : ClusterOpening) (nodes_few : opened.size.nodes < 2 ^ 8) (all : All FlowFits opened.flows) (lanes others : ℕ) where
+module _ (opened : ClusterOpening) (nodes_few : opened.size.nodes ≤ 2 ^ 8) (all : All FlowFits opened.flows) (lanes others : ℕ) where
   -- where two runs have the same journals and the same turns taken, lines that are one have one list of replies
   same_from : (script : List Event) (replies other : List Reply) (m n : Moment) (packets : ℕ) (rest more : List ℕ) → All SetFits script → AreShort m.now
       → m.now ≡ n.now → m.nodes ≡ n.nodes → AllowedFrom opened lanes m script replies → AllowedFrom opened others n script other

@@ -3,8 +3,8 @@ use Rattle.std.proofs.Common.{◌≡◌, ◌∙◌, ◌^◌, ◌<◌, ◌≤◌,
 use Rattle.std.proofs.lemmas.List.{append_cancel_left}
 use Rattle.flow_types.specs.declared.record.Record.{Record}
 use Rattle.flow_types.specs.Text.{address_text}
-use Rattle.replay_model.specs.declared.reply.Reply.{Reply}
-use Rattle.replay_model.specs.declared.reply.Reply.TheVariants.{Found, Unknown, Nowhere}
+use Rattle.run_model.specs.declared.reply.Reply.{Reply}
+use Rattle.run_model.specs.declared.reply.Reply.TheVariants.{Found, Unknown, Nowhere}
 use Rattle.line_text.specs.Line.{line_feed}
 use Rattle.run_report.specs.Report.{fib_words, found_line, hops, node_words, nowhere_line, packet_line, packet_words, record_words, seen_words, unknown_line, unknown_words}
 use Rattle.run_report.proofs.Addresses.{address_texts_apart, glyphs-address}

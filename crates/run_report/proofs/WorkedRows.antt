@@ -8,8 +8,8 @@ use Rattle.flow_types.specs.declared.record.Record.{Record}
 use Rattle.packet_reader.specs.declared.event.Event.{Event}
 use Rattle.packet_reader.specs.declared.event.Event.TheVariants.{Set, Del, Packet, Carry, Sync}
 use Rattle.packet_reader.specs.declared.event.Part.TheVariants.{Table, Fib}
-use Rattle.rib_owner.specs.declared.refused.UpdateRefused.TheVariants.{Spent, Absent, BlockFull, RowsFull}
-use Rattle.replay_model.specs.declared.reply.Reply.TheVariants.{Accepted, Refused, Found, Unknown, Nowhere, Applied, RepeatHave, EarlyHave, Unsent, Synced}
+use Rattle.group_history.specs.declared.refused.UpdateRefused.TheVariants.{Spent, Absent, BlockFull, RowsFull}
+use Rattle.run_model.specs.declared.reply.Reply.TheVariants.{Accepted, Refused, Found, Unknown, Nowhere, Applied, RepeatHave, EarlyHave, Unsent, Synced}
 use Rattle.line_text.specs.Line.{line_feed}
 use Rattle.run_report.specs.Report.{accepted_line, carry_line, found_line, last_line, lines, nowhere_line, refused_line, report, unknown_line}
 

@@ -7,10 +7,10 @@ use Rattle.flow_types.specs.Text.{address_text}
 use Rattle.line_text.specs.Line.{line_of}
 use Rattle.packet_reader.specs.declared.event.Event.{Event}
 use Rattle.packet_reader.specs.declared.event.Event.TheVariants.{Set, Del, Packet, Carry, Sync}
-use Rattle.rib_owner.specs.declared.refused.UpdateRefused.{UpdateRefused}
-use Rattle.rib_owner.specs.declared.refused.UpdateRefused.TheVariants.{Spent, Absent, BlockFull, RowsFull, OutOfMemory}
-use Rattle.replay_model.specs.declared.reply.Reply.{Reply}
-use Rattle.replay_model.specs.declared.reply.Reply.TheVariants.{Accepted, Refused, Found, Unknown, Nowhere, Applied, RepeatHave, EarlyHave, Unsent, Synced}
+use Rattle.group_history.specs.declared.refused.UpdateRefused.{UpdateRefused}
+use Rattle.group_history.specs.declared.refused.UpdateRefused.TheVariants.{Spent, Absent, BlockFull, RowsFull, OutOfMemory}
+use Rattle.run_model.specs.declared.reply.Reply.{Reply}
+use Rattle.run_model.specs.declared.reply.Reply.TheVariants.{Accepted, Refused, Found, Unknown, Nowhere, Applied, RepeatHave, EarlyHave, Unsent, Synced}
 
 -- ---- updates
 
@@ -112,7 +112,7 @@ unfoldable pub last_line : (found unknown : ℕ) → List ℕ
 last_line found unknown =
     line_of (codes "done packets " ∷ decimal (found + unknown) ∷ codes " found " ∷ decimal found ∷ codes " unknown " ∷ decimal unknown ∷ [])
 
--- the line of an event and its reply, where so many packets came before it; a `sync` has none
+-- the line of an event and its reply, after a number of packets; a `sync` has none
 abbrev pub line : (packets : ℕ) → Event → Reply → List ℕ
 line packets (Set flow) reply = update_line (codes "set") reply
 line packets (Del key) reply = update_line (codes "del") reply
@@ -120,7 +120,7 @@ line packets (Packet ingress key) reply = packet_line packets ingress reply
 line packets (Carry node owner turn part) reply = carry_line reply
 line packets Sync reply = []
 
--- how many packets there are with this event, where so many came before it
+-- how many packets there are with this event, after a number of them
 abbrev pub packets_with : (packets : ℕ) → Event → ℕ
 packets_with packets (Packet ingress key) = packets + 1
 packets_with packets _ = packets

@@ -2,8 +2,9 @@
 
 ghost use Rattle.run_report.specs.Law.{DeletionsHaveRows, OneReportOneRun};
 
-/// A printed text has one list of replies: of two lists that are allowed for a script, with the same number of lanes or with
-/// another, only one has this text.
+/// A printed text has one list of replies, where the numbers of the opening and of the script fit their types: of two lists that
+/// are allowed for the script, with the same number of lanes or with another, only one has this text. Those of an opening and a
+/// script that rows say fit (`cluster_open::one_text_one_run`).
 #[tactic(auto, using(crate::proofs::OneRun::one_report_one_run))]
 pub fn one_report_one_run()
     ensures { OneReportOneRun }

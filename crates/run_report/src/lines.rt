@@ -6,13 +6,13 @@ ghost use Rattle.std.specs.Fmt.{decimal};
 ghost use Rattle.run_report.specs.Report.{IsOfCarry, IsOfEvent, IsOfPacket, IsOfUpdate, IsPrinted, accepted_line, carry_line, carry_words, fib_words, found_line, hops, last_line, line, node_words, nowhere_line, packet_line, packet_words, record_words, refusal_words, refused_line, rows_words, seen_words, summary_line, unknown_line, update_line};
 
 use flow_types::{Record, write_address};
+use group_history::UpdateRefused;
 use line_text::{write_count, write_words};
 use packet_reader::Event;
-use replay_model::Reply;
-use rib_owner::UpdateRefused;
+use run_model::Reply;
 use std::alloc::AllocError;
 
-/// Appends the line of an event and its reply, where so many packets came before it. A `sync` has none.
+/// Appends the line of an event and its reply, after `packets` packets. A `sync` has none.
 pub fn write_line(
     text: &mut Vec<u8>,
     packets: usize,
@@ -230,7 +230,7 @@ fn write_carried(text: &mut Vec<u8>, reply: &Reply) -> Result<(), AllocError>
 
 // ---- all
 
-/// Appends the last line, of so many packets whose flows were found and so many whose flows weren't.
+/// Appends the last line, by the number of packets whose flow was found and that of the others.
 pub fn write_last_line(text: &mut Vec<u8>, found: usize, unknown: usize) -> Result<(), AllocError>
     requires { found + unknown < 2 ^ 64 }
     ensures { OnOk result (text.new.items ≡ text.old.items ++ last_line found unknown) }

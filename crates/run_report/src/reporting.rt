@@ -4,7 +4,7 @@ ghost use Rattle.run_report.specs.Report.{AreOfTheirEvents, is_accepted, is_foun
 use crate::lines::{write_last_line, write_line, write_summary_line};
 use out_of_memory::OutOfMemory;
 use packet_reader::Event;
-use replay_model::Reply;
+use run_model::Reply;
 use std::alloc::{AllocError, Global};
 
 /// As many octets as most lines take at most.
@@ -25,7 +25,7 @@ pub fn report(alloc: Global, script: &[Event], replies: &[Reply]) -> Result<Vec<
     Ok(text)
 }
 
-/// The one line of a run over so many rows that were made from a seed, with the counts of its replies.
+/// The one line of a run over `rows` rows that were made from a seed, with the counts of its replies.
 #[tactic(auto, using(crate::proofs::Counts::counts_within), unfolding(crate::specs::Report::summary))]
 pub fn summary(
     alloc: Global,
@@ -94,7 +94,7 @@ fn write_lines(text: &mut Vec<u8>, script: &[Event], replies: &[Reply]) -> Resul
     Ok(())
 }
 
-/// How many packets there are with this event, where so many came before it.
+/// How many packets there are with this event, after `packets` packets.
 fn packets_with(packets: usize, event: &Event) -> usize
     requires { packets + 1 < 2 ^ 64 }
     ensures { result ≡ packets_with packets event.now }

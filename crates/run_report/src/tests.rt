@@ -1,8 +1,8 @@
 use crate::report;
 use flow_types::{Flow, FlowKey, Record};
+use group_history::UpdateRefused;
 use packet_reader::{Event, Part};
-use replay_model::Reply;
-use rib_owner::UpdateRefused;
+use run_model::Reply;
 use std::test::Fail;
 
 const KEY: FlowKey = FlowKey {

@@ -7,7 +7,7 @@ abbrev pub ReadsAll : Option (List ℕ) → Option (List ℕ) → List ℕ → T
 ReadsAll None now octets = ⊤
 ReadsAll (Some left) now octets = (octets ≡ left) × (now ≡ Some [])
 
--- exactly so many octets were read of those that were left
+-- exactly this number of octets was read, of those that were left
 abbrev pub ReadsCount : List ℕ → Option (List ℕ) → ℕ → Type 0
 ReadsCount left now count = (count ≤ length left) × (now ≡ Some (drop count left))
 

@@ -1,7 +1,7 @@
 //! Where the program's input comes from and where its output goes: sources, sinks, and the gate at threads.
 //!
 //! A contract sees the octets that a source has left and that a sink holds, where these are told, and a count of faults
-//! that never falls. `read_all` gives the whole input or says why not; `write_all` appends all octets or, where
+//! that never falls and stands still at its last value, beyond which it never is. `read_all` gives the whole input or says why not; `write_all` appends all octets or, where
 //! the sink failed, a proper prefix of them. A failure comes only where the count rose.
 //!
 //! Proved: the above, for every source and sink. `MemSource` and `MemSink` fail exactly at the calls that they

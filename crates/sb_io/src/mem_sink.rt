@@ -1,5 +1,5 @@
 ghost use Rattle.std.specs.Prelude.{ℕ, List, [], Some, ◌≡◌, ◌⊎◌, ◌+◌, ◌<◌, ◌≤◌, ◌++◌, ◌↔◌, IfOk, OnOk, OnErr, IsErr, Contains, length, take};
-ghost use Rattle.sb_io.specs.Faults.{next_count, Rose};
+ghost use Rattle.sb_io.specs.Faults.{last_count, next_count};
 ghost use Rattle.sb_io.specs.Memory.{Store};
 
 use crate::{Failed, Sink};
@@ -58,6 +58,7 @@ impl Sink for MemSink {
 
     fn write(&mut self, piece: &[u8]) -> Result<usize, Failed>
         ensures never_falls { self.old.faults ≤ self.new.faults }
+        ensures in_range { self.new.faults ≤ last_count }
 
         // It fails exactly at the listed calls and past the limit.
         ensures listed { IsErr result ↔ (Contains self.old.failing (next_count self.old.calls) ⊎ self.old.limit < length self.old.held + length piece.now) }

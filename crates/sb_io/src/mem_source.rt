@@ -1,6 +1,6 @@
 ghost use Rattle.std.specs.Prelude.{ℕ, List, [], Some, ◌≡◌, ◌<◌, ◌≤◌, ◌++◌, ◌↔◌, IfOk, OnOk, OnErr, IsErr, Contains, length, take, min, IsTrue};
 ghost use Rattle.std.specs.Io.KnownBytes.{Consumes, IsAtEnd, Keeps};
-ghost use Rattle.sb_io.specs.Faults.{next_count, Rose};
+ghost use Rattle.sb_io.specs.Faults.{last_count, next_count};
 ghost use Rattle.sb_io.specs.Memory.{Feed};
 
 use crate::octets::Octets;
@@ -49,6 +49,7 @@ impl Source for MemSource {
         ensures fits { IfOk result (λ n. n ≤ length into.new) }
         ensures end { IfOk result (λ n. n ≡ 0 → 0 < length into.new → self.new.left ≡ []) }
         ensures never_falls { self.old.faults ≤ self.new.faults }
+        ensures in_range { self.new.faults ≤ last_count }
 
         // It fails exactly at the listed calls.
         ensures listed { IsErr result ↔ Contains self.old.failing (next_count self.old.calls) }
@@ -60,9 +61,10 @@ impl Source for MemSource {
         ensures calls { self.new.calls ≡ next_count self.old.calls }
         ensures list { self.new.failing ≡ self.old.failing }
     {
+        let faults = self.faults;
         self.calls = self.calls.saturating_add(1);
         if self.failing.contains(&self.calls) {
-            self.faults = self.faults.saturating_add(1);
+            self.faults = faults.saturating_add(1);
             return Err(Failed);
         }
         Ok(self.octets.give(into))

@@ -1,6 +1,6 @@
 ghost use Rattle.std.specs.Prelude.{ℕ, List, Option, ◌<◌, ◌≤◌, length, take, IfOk, OnErr};
 ghost use Rattle.std.specs.Io.KnownBytes.{Appends, Keeps};
-ghost use Rattle.sb_io.specs.Faults.{Rose};
+ghost use Rattle.sb_io.specs.Faults.{last_count, Rose};
 
 use crate::Failed;
 
@@ -9,7 +9,7 @@ pub trait Sink {
     /// The octets that it holds, or `None`, which tells nothing.
     ghost held: { Self → Option (List ℕ) };
 
-    /// How often a write has failed.
+    /// How often a write has failed. At its last value the count stands still.
     ghost faults: { Self → ℕ };
 
     /// Appends octets from the start of a piece, and answers how many: at least one, where the piece isn't empty.
@@ -21,5 +21,6 @@ pub trait Sink {
         ensures failed { OnErr result (Rose (faults self.old) (faults self.new)) }
         ensures kept { OnErr result (Keeps (held self.old) (held self.new)) }
 
-        ensures never_falls { faults self.old ≤ faults self.new };
+        ensures never_falls { faults self.old ≤ faults self.new }
+        ensures in_range { faults self.new ≤ last_count };
 }

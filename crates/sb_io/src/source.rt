@@ -1,6 +1,6 @@
 ghost use Rattle.std.specs.Prelude.{ℕ, List, Option, ◌≡◌, ◌<◌, ◌≤◌, length, take, IfOk, OnErr};
 ghost use Rattle.std.specs.Io.KnownBytes.{Consumes, IsAtEnd, Keeps};
-ghost use Rattle.sb_io.specs.Faults.{Rose};
+ghost use Rattle.sb_io.specs.Faults.{last_count, Rose};
 
 use crate::Failed;
 
@@ -9,7 +9,7 @@ pub trait Source {
     /// The octets that are left, or `None`, which tells nothing.
     ghost left: { Self → Option (List ℕ) };
 
-    /// How often a read has failed.
+    /// How often a read has failed. At its last value the count stands still.
     ghost faults: { Self → ℕ };
 
     /// Reads the next octets into the start of a slice, and answers how many. None, where the slice isn't empty, is
@@ -22,5 +22,6 @@ pub trait Source {
         ensures failed { OnErr result (Rose (faults self.old) (faults self.new)) }
         ensures kept { OnErr result (Keeps (left self.old) (left self.new)) }
 
-        ensures never_falls { faults self.old ≤ faults self.new };
+        ensures never_falls { faults self.old ≤ faults self.new }
+        ensures in_range { faults self.new ≤ last_count };
 }

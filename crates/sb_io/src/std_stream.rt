@@ -1,6 +1,6 @@
 ghost use Rattle.std.specs.Prelude.{ℕ, None, ◌≡◌, ◌<◌, ◌≤◌, IfOk, OnOk, OnErr, length, take};
 ghost use Rattle.std.specs.Io.KnownBytes.{Appends, Keeps};
-ghost use Rattle.sb_io.specs.Faults.{next_count, Rose};
+ghost use Rattle.sb_io.specs.Faults.{last_count, next_count, Rose};
 
 use crate::trying::{read_uninterrupted, write_uninterrupted};
 use crate::{Failed, Sink, Source};
@@ -41,13 +41,15 @@ impl<R: Input> Source for StdSource<R> {
     fn read(&mut self, into: &mut [u8]) -> Result<usize, Failed>
         ensures fits { IfOk result (λ n. n ≤ length into.new) }
         ensures never_falls { self.old ≤ self.new }
+        ensures in_range { self.new ≤ last_count }
         ensures fault { OnErr result (self.new ≡ next_count self.old) }
         ensures no_fault { OnOk result (self.new ≡ self.old) }
     {
+        let faults = self.faults;
         match read_uninterrupted(&mut self.reader, into) {
             Ok(count) => Ok(count),
             Err(_) => {
-                self.faults = self.faults.saturating_add(1);
+                self.faults = faults.saturating_add(1);
                 Err(Failed)
             }
         }
@@ -91,13 +93,15 @@ impl<'a, P: Print> Sink for StdSink<'a, P> {
         ensures failed { OnErr result (Rose self.old self.new) }
         ensures kept { OnErr result (Keeps None None) }
         ensures never_falls { self.old ≤ self.new }
+        ensures in_range { self.new ≤ last_count }
         ensures fault { OnErr result (self.new ≡ next_count self.old) }
         ensures no_fault { OnOk result (self.new ≡ self.old) }
     {
+        let faults = self.faults;
         match write_uninterrupted(self.to, piece) {
             Ok(count) if count > 0 || piece.is_empty() => Ok(count),
             _ => {
-                self.faults = self.faults.saturating_add(1);
+                self.faults = faults.saturating_add(1);
                 Err(Failed)
             }
         }

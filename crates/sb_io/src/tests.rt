@@ -82,7 +82,7 @@ fn standard_streams_work(rt: HostRuntime) -> Result<(), Fail> {
     Ok(())
 }
 
-/// A reader of sevens, whose first reads a signal interrupts, so many of them.
+/// A reader of sevens, whose first `times` reads a signal interrupts.
 #[derive(Drop)]
 struct Interrupted {
     times: u8,

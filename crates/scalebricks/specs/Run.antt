@@ -3,16 +3,16 @@ use Rattle.std.specs.Prelude.{◌≡◌, ◌⊎◌, ℕ, ◌≤◌, List, length
 use Rattle.std.specs.Io.KnownBytes.{Appends}
 use Rattle.flow_types.specs.Input.{most_octets}
 use Rattle.sb_io.specs.Streams.{ReadsAll}
-use Rattle.packet_reader.specs.declared.mode.Mode.{Mode as RunMode}
-use Rattle.packet_reader.specs.declared.mode.Mode.TheVariants as run_mode
+use Rattle.packet_reader.specs.declared.mode.Mode.{Mode}
+use Rattle.packet_reader.specs.declared.mode.Mode.TheVariants as mode
 use Rattle.cluster_open.specs.declared.fault.InputFault.{InputFault}
 use Rattle.cluster_open.specs.declared.fault.InputFault.TheVariants.{Bad, BlockFull, RowsFull, OutOfMemory}
 use Rattle.cluster_open.specs.Input.{fault_in}
 use Rattle.cluster_open.specs.Runs.{ComesTo, IsRunOf}
 use Rattle.command_words.specs.Words.{meant}
 use Rattle.command_words.specs.declared.command.Command.{Command}
-use Rattle.command_words.specs.declared.command.Mode.{Mode}
-use Rattle.command_words.specs.declared.command.Mode.TheVariants.{Replay, Storm, Grind}
+use Rattle.command_words.specs.declared.command.Task.{Task}
+use Rattle.command_words.specs.declared.command.Task.TheVariants.{Replay, Storm, Grind}
 use Rattle.scalebricks.specs.Grind.{grind_outcome}
 use Rattle.scalebricks.specs.Printed.{IsRefused, printed}
 use Rattle.scalebricks.specs.Status.{code}
@@ -28,9 +28,9 @@ abbrev pub OfCommand : List (List ℕ) → (Command → Type 0) → Type 0
 OfCommand words P = IfSome (meant words) P
 
 -- this holds of the mode in which a command runs its input and of the lanes that answer; a grind has no input
-abbrev pub OfRun : Mode → (lanes : ℕ) → (RunMode → (lanes : ℕ) → Type 0) → Type 0
-OfRun Replay lanes P = P run_mode.Replay 1
-OfRun Storm lanes P = P run_mode.Storm lanes
+abbrev pub OfRun : Task → (lanes : ℕ) → (Mode → (lanes : ℕ) → Type 0) → Type 0
+OfRun Replay lanes P = P mode.Replay 1
+OfRun Storm lanes P = P mode.Storm lanes
 OfRun Grind lanes P = Unit {0}
 
 -- ---- what an input comes to
@@ -40,11 +40,11 @@ abbrev pub OfInput : Option (List ℕ) → Option (List ℕ) → (List ℕ → T
 OfInput left now P = (octets : List ℕ) × ReadsAll left now octets × (length octets ≤ most_octets) × P octets
 
 -- this holds of what the input comes to in a run
-abbrev pub OfOutcome : RunMode → (lanes : ℕ) → (Result (List ℕ) InputFault → Type 0) → List ℕ → Type 0
+abbrev pub OfOutcome : Mode → (lanes : ℕ) → (Result (List ℕ) InputFault → Type 0) → List ℕ → Type 0
 OfOutcome mode lanes P octets = (outcome : Result (List ℕ) InputFault) × ComesTo mode lanes octets outcome × P outcome
 
 -- what was appended is a run's of this input
-abbrev pub AppendsRun : RunMode → (lanes : ℕ) → (held now : Option (List ℕ)) → List ℕ → Type 0
+abbrev pub AppendsRun : Mode → (lanes : ℕ) → (held now : Option (List ℕ)) → List ℕ → Type 0
 AppendsRun mode lanes held now octets = (text : List ℕ) × IsRunOf mode lanes octets text × Appends held now text
 
 -- what was appended is the line of the fault
@@ -53,11 +53,11 @@ AppendsLine held now outcome = IsRefused outcome × Appends held now (printed ou
 
 -- ---- what a command comes to
 
--- this holds of what a command of this mode, with these lanes and this seed, comes to: a replay and a storm read the whole input,
+-- this holds of what a command of this task, with these lanes and this seed, comes to: a replay and a storm read the whole input,
 -- and a grind makes its own rows
-abbrev pub OfCommandsOutcome : Mode → (lanes seed : ℕ) → (left now : Option (List ℕ)) → (Result (List ℕ) InputFault → Type 0) → Type 0
-OfCommandsOutcome Replay lanes seed left now P = OfInput left now (OfOutcome run_mode.Replay 1 P)
-OfCommandsOutcome Storm lanes seed left now P = OfInput left now (OfOutcome run_mode.Storm lanes P)
+abbrev pub OfCommandsOutcome : Task → (lanes seed : ℕ) → (left now : Option (List ℕ)) → (Result (List ℕ) InputFault → Type 0) → Type 0
+OfCommandsOutcome Replay lanes seed left now P = OfInput left now (OfOutcome mode.Replay 1 P)
+OfCommandsOutcome Storm lanes seed left now P = OfInput left now (OfOutcome mode.Storm lanes P)
 OfCommandsOutcome Grind lanes seed left now P = P (grind_outcome seed)
 
 -- what was appended is the summary that a grind comes to
@@ -66,15 +66,15 @@ AppendsSummary seed held now = (text : List ℕ) × (grind_outcome seed ≡ Ok t
 
 -- what was appended at the end: a replay's is the run of its whole input, on one lane, a storm's is one on these lanes, and a
 -- grind's its summary
-abbrev pub AppendsAll : Mode → (lanes seed : ℕ) → (left left_now held held_now : Option (List ℕ)) → Type 0
-AppendsAll Replay lanes seed left left_now held held_now = OfInput left left_now (AppendsRun run_mode.Replay 1 held held_now)
-AppendsAll Storm lanes seed left left_now held held_now = OfInput left left_now (AppendsRun run_mode.Storm lanes held held_now)
+abbrev pub AppendsAll : Task → (lanes seed : ℕ) → (left left_now held held_now : Option (List ℕ)) → Type 0
+AppendsAll Replay lanes seed left left_now held held_now = OfInput left left_now (AppendsRun mode.Replay 1 held held_now)
+AppendsAll Storm lanes seed left left_now held held_now = OfInput left left_now (AppendsRun mode.Storm lanes held held_now)
 AppendsAll Grind lanes seed left left_now held held_now = AppendsSummary seed held held_now
 
 -- ---- statuses
 
 -- the input is within its limit, and no row of it breaks a rule in this mode, nor are its flows past a limit of the table
-pub record IsReadable (mode : RunMode) (octets : List ℕ) : Type 0 where
+pub record IsReadable (mode : Mode) (octets : List ℕ) : Type 0 where
   pub within : length octets ≤ most_octets
   pub accepted : fault_in mode octets ≡ None
 
@@ -94,11 +94,11 @@ status_by None = code Done
 status_by (Some fault) = fault_status fault
 
 -- the status of an input that is run in this mode, where neither reading nor writing fails and there is memory
-abbrev pub status_of : RunMode → List ℕ → ℕ
+abbrev pub status_of : Mode → List ℕ → ℕ
 status_of mode octets = if nat_lt most_octets (length octets) then code TooLarge else status_by (fault_in mode octets)
 
 -- the output of a run of this input: it prints what the input comes to, and its status tells of that
-pub record IsOutputOf (mode : RunMode) (lanes : ℕ) (octets : List ℕ) (output : Output) : Type 0 where
+pub record IsOutputOf (mode : Mode) (lanes : ℕ) (octets : List ℕ) (output : Output) : Type 0 where
   pub outcome : Result (List ℕ) InputFault
   pub comes_to : ComesTo mode lanes octets outcome
   pub known : IsOk outcome ⊎ IsRefused outcome

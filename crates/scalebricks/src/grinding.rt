@@ -23,7 +23,7 @@ use std::alloc::Global;
 use std::thread::Threads;
 
 /// The one line about a replay of the rows that `grind_input` makes from the seed: the counts of rows, of accepted and refused
-/// updates, and of packets whose flows were found and weren't. The table is built by so many workers, 1..=64, which change
+/// updates, and of packets whose flows were found and weren't. The table is built by 1..=64 `workers`, which change
 /// nothing in it. The fault is that of the rows.
 #[tactic(auto, unfolding(crate::specs::Grind::grind_outcome))]
 pub fn grind<R: Threads + Sync>(
@@ -55,7 +55,8 @@ pub fn grind_seed<K: Sink, R: Threads + Sync>(
     requires few_workers { workers ≤ 64 }
 
     // The status is that of the seed's rows, but where the sink fails or memory lacks.
-    ensures exact { (result ≡ outcome_status (grind_outcome seed)) ⊎ ((result ≡ code WriteFailed) ⊎ (result ≡ code NoMemory)) }
+    ensures exact { (result ≡ outcome_status (grind_outcome seed)) ⊎
+        ((result ≡ code WriteFailed) ⊎ (result ≡ code NoMemory)) }
 
     ensures done { result ≡ code Done → AppendsSummary seed (K.held output.old) (K.held output.new) }
     ensures refused { result ≡ code InputRefused →
@@ -88,7 +89,8 @@ fn make_output<R: Threads + Sync>(
     ensures text { IfOk result (λ made. made.text.items ≡ printed (grind_outcome seed)) }
     ensures status { IfOk result (λ made. made.status ≡ outcome_status (grind_outcome seed)) }
     ensures known { OnOk result (IsOk (grind_outcome seed) ⊎ IsRefused (grind_outcome seed)) }
-    ensures summary { IfOk result (λ made. made.status ≡ code Done → grind_outcome seed ≡ Ok made.text.items) }
+    ensures summary { IfOk result (λ made. made.status ≡ code Done →
+        grind_outcome seed ≡ Ok made.text.items) }
 {
     match grind(rt, alloc, seed, workers) {
         Ok(text) => Ok(Output { text, status: DONE }),

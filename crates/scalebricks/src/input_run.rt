@@ -14,8 +14,9 @@ ghost use Rattle.scalebricks.specs.Status.Status.{Done, InputRefused, NoMemory, 
 
 use crate::output::{Output, print_output, refused};
 use crate::status::{DONE, INPUT_LIMIT, OUT_OF_MEMORY, READ_FAULT, TOO_LARGE};
-use cluster_replay::{InputFault, replay_vec};
-use cluster_storm::storm_vec;
+use cluster_open::read_vec;
+use cluster_replay::{InputFault, replay_input};
+use cluster_storm::storm_input;
 use out_of_memory::OutOfMemory;
 use packet_reader::Mode;
 use sb_io::{Gate, ReadRefusal, Sink, Source, read_all};
@@ -75,7 +76,8 @@ pub fn run_input<S: Source, K: Sink, G: Gate + Sync, R: Threads + Sync + Wait>(
     ensures write_faults { K.faults output.old ≤ K.faults output.new }
 
     // The status is that of the input, but where a fault or want of memory comes first.
-    ensures exact { IfSome (S.left input.old) (λ octets. (result ≡ status_of how.mode octets) ⊎ IsHindered result) }
+    ensures exact { IfSome (S.left input.old) (λ octets. (result ≡ status_of how.mode octets) ⊎
+        IsHindered result) }
     ensures complete { IfSome (S.left input.old) (λ octets. IsReadable how.mode octets
         → ¬ Rose (S.faults input.old) (S.faults input.new) → ¬ Rose (K.faults output.old) (K.faults output.new)
         → (result ≡ code Done) ⊎ (result ≡ code NoMemory)) }
@@ -124,8 +126,12 @@ fn text_of<G: Gate + Sync, R: Threads + Sync + Wait>(
     requires limit { length bytes.items ≤ most_octets }
     ensures { AnswersRun how.mode how.lanes bytes.items result }
 {
+    let input = match read_vec(alloc, bytes, how.mode) {
+        Ok(input) => input,
+        Err(fault) => return Err(fault),
+    };
     match how.mode {
-        Mode::Replay => replay_vec(rt, alloc, bytes, how.workers),
-        Mode::Storm => storm_vec(rt, alloc, bytes, how.workers, how.lanes, gate),
+        Mode::Replay => replay_input(rt, alloc, input, how.workers),
+        Mode::Storm => storm_input(rt, alloc, input, how.workers, how.lanes, gate),
     }
 }

@@ -3,7 +3,7 @@
 //!
 //! `run` is all that the program does, over any source and sink: its contract says of each status when it comes and what
 //! was written then, in the mode that the words ask for. A replay runs the rows by one thread and has one output; a storm
-//! runs them by owners, lanes and appliers, and has one of those that the model allows on so many lanes. `grind` is the
+//! runs them by owners, lanes and appliers, and has one of those that the model allows on its lanes. `grind` is the
 //! mode without input, as a call. `main` gives `run` standard input and output and the words that the program was called
 //! with.
 //!
@@ -18,8 +18,14 @@ mod grinding;
 mod input_run;
 mod output;
 mod refusal;
+#[cfg(test)]
+mod relay_tests;
+#[cfg(test)]
+mod replay_tests;
 mod running;
 mod status;
+#[cfg(test)]
+mod storm_tests;
 #[cfg(test)]
 mod tests;
 

@@ -57,7 +57,8 @@ pub fn print_output<K: Sink>(made: Output, output: &mut K) -> u8
     ensures status { (result ≡ made.status) ⊎ (result ≡ code WriteFailed) }
     ensures written { result ≡ made.status → Appends (K.held output.old) (K.held output.new) made.text.items }
     ensures write_fault { result ≡ code WriteFailed → Rose (K.faults output.old) (K.faults output.new) }
-    ensures cut_short { result ≡ code WriteFailed → AppendsPart (K.held output.old) (K.held output.new) made.text.items }
+    ensures cut_short { result ≡ code WriteFailed → AppendsPart (K.held output.old) (K.held output.new)
+        made.text.items }
     ensures never_falls { K.faults output.old ≤ K.faults output.new }
 {
     match write_all(output, &made.text) {

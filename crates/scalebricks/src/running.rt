@@ -2,7 +2,7 @@ ghost use Rattle.std.specs.Prelude.{ℕ, ◌≡◌, ◌≤◌, ◌↔◌, ◌⊎
 ghost use Rattle.flow_types.specs.Input.{most_octets};
 ghost use Rattle.sb_io.specs.Faults.{Rose};
 ghost use Rattle.sb_io.specs.Streams.{ReadsCount, AppendsPart};
-ghost use Rattle.command_words.specs.declared.command.Mode.TheVariants.{Grind};
+ghost use Rattle.command_words.specs.declared.command.Task.TheVariants.{Grind};
 ghost use Rattle.scalebricks.specs.Grind.{grind_outcome};
 ghost use Rattle.scalebricks.specs.Printed.{printed};
 ghost use Rattle.scalebricks.specs.Run.{AppendsAll, AppendsLine, IsCommand, IsReadable, OfCommand, OfCommandsOutcome, OfRun, outcome_status, status_of};
@@ -12,9 +12,9 @@ ghost use Rattle.scalebricks.specs.Status.Status.{Done, InputRefused, NoMemory, 
 use crate::grinding::grind_seed;
 use crate::input_run::{InputRun, run_input};
 use crate::status::{OUT_OF_MEMORY, WORDS_REFUSED};
-use command_words::{Mode, read_command};
+use command_words::{Task, read_command};
 use out_of_memory::OutOfMemory;
-use packet_reader::Mode as RunMode;
+use packet_reader::Mode;
 use sb_io::{Gate, Sink, Source};
 use std::alloc::Global;
 use std::sync::Wait;
@@ -34,24 +34,28 @@ pub fn run<S: Source, K: Sink, G: Gate + Sync, R: Threads + Sync + Wait>(
     ensures known { result ≤ code TooLarge }
 
     // In the mode, on the lanes and with the seed of the words: a replay or a storm read its input to its end, and what was
-    // appended is a run of its script that the model allows on so many lanes, which is the headline. A replay has one lane
+    // appended is a run of its script that the model allows on that many lanes, which is the headline. A replay has one lane
     // and one such run; a storm has one of several. What a grind appended is the summary of its own rows.
-    ensures done { result ≡ code Done → OfCommand (map string_bytes words.now) (λ command. AppendsAll command.mode command.lanes command.seed
+    ensures done { result ≡ code Done → OfCommand (map string_bytes words.now)
+        (λ command. AppendsAll command.task command.lanes command.seed
         (S.left input.old) (S.left input.new) (K.held output.old) (K.held output.new)) }
 
     // The rows have a bad one or a block past a limit, and the line of the first was appended.
-    ensures refused { result ≡ code InputRefused → OfCommand (map string_bytes words.now) (λ command. OfCommandsOutcome command.mode command.lanes command.seed
+    ensures refused { result ≡ code InputRefused → OfCommand (map string_bytes words.now)
+        (λ command. OfCommandsOutcome command.task command.lanes command.seed
         (S.left input.old) (S.left input.new) (AppendsLine (K.held output.old) (K.held output.new))) }
 
     ensures command { result ≡ code WordsRefused → ¬ IsCommand (map string_bytes words.now) }
-    ensures no_command { ¬ IsCommand (map string_bytes words.now) → (result ≡ code WordsRefused) ⊎ (result ≡ code NoMemory) }
-    ensures nothing_read { result ≡ code WordsRefused → input.new ≡ input.old }
+    ensures no_command { ¬ IsCommand (map string_bytes words.now) → (result ≡ code WordsRefused) ⊎
+        (result ≡ code NoMemory) }
+    ensures nothing_read { ¬ IsCommand (map string_bytes words.now) → input.new ≡ input.old }
 
     ensures read_fault { result ≡ code ReadFailed → Rose (S.faults input.old) (S.faults input.new) }
 
     // What 0 or 1 would have appended was cut short.
     ensures write_fault { result ≡ code WriteFailed → Rose (K.faults output.old) (K.faults output.new) }
-    ensures cut_short { result ≡ code WriteFailed → OfCommand (map string_bytes words.now) (λ command. OfCommandsOutcome command.mode command.lanes command.seed
+    ensures cut_short { result ≡ code WriteFailed → OfCommand (map string_bytes words.now)
+        (λ command. OfCommandsOutcome command.task command.lanes command.seed
         (S.left input.old) (S.left input.new) (λ outcome.
         AppendsPart (K.held output.old) (K.held output.new) (printed outcome))) }
 
@@ -68,18 +72,21 @@ pub fn run<S: Source, K: Sink, G: Gate + Sync, R: Threads + Sync + Wait>(
     ensures write_faults { K.faults output.old ≤ K.faults output.new }
 
     // The status of a run is that of its input in its mode, but where a fault or want of memory comes first.
-    ensures exact_run { OfCommand (map string_bytes words.now) (λ command. OfRun command.mode command.lanes (λ mode lanes.
+    ensures exact_run { OfCommand (map string_bytes words.now)
+        (λ command. OfRun command.task command.lanes (λ mode lanes.
         IfSome (S.left input.old) (λ octets. (result ≡ status_of mode octets) ⊎ IsHindered result))) }
-    ensures complete_run { OfCommand (map string_bytes words.now) (λ command. OfRun command.mode command.lanes (λ mode lanes.
+    ensures complete_run { OfCommand (map string_bytes words.now)
+        (λ command. OfRun command.task command.lanes (λ mode lanes.
         IfSome (S.left input.old) (λ octets. IsReadable mode octets
         → ¬ Rose (S.faults input.old) (S.faults input.new) → ¬ Rose (K.faults output.old) (K.faults output.new)
         → (result ≡ code Done) ⊎ (result ≡ code NoMemory)))) }
 
     // A grind reads nothing, and its status is that of its own rows, but where the sink fails or memory lacks.
-    ensures own_rows { OfCommand (map string_bytes words.now) (λ command. command.mode ≡ Grind → input.new ≡ input.old) }
-    ensures exact_grind { OfCommand (map string_bytes words.now) (λ command. command.mode ≡ Grind →
+    ensures own_rows { OfCommand (map string_bytes words.now)
+        (λ command. command.task ≡ Grind → input.new ≡ input.old) }
+    ensures exact_grind { OfCommand (map string_bytes words.now) (λ command. command.task ≡ Grind →
         (result ≡ outcome_status (grind_outcome command.seed)) ⊎ ((result ≡ code WriteFailed) ⊎ (result ≡ code NoMemory))) }
-    ensures complete_grind { OfCommand (map string_bytes words.now) (λ command. command.mode ≡ Grind →
+    ensures complete_grind { OfCommand (map string_bytes words.now) (λ command. command.task ≡ Grind →
         ¬ Rose (K.faults output.old) (K.faults output.new)
         → (result ≡ outcome_status (grind_outcome command.seed)) ⊎ (result ≡ code NoMemory)) }
 {
@@ -88,23 +95,23 @@ pub fn run<S: Source, K: Sink, G: Gate + Sync, R: Threads + Sync + Wait>(
         Ok(None) => return WORDS_REFUSED,
         Err(OutOfMemory) => return OUT_OF_MEMORY,
     };
-    match command.mode {
-        Mode::Replay => {
+    match command.task {
+        Task::Replay => {
             let how = InputRun {
-                mode: RunMode::Replay,
+                mode: Mode::Replay,
                 workers: command.workers,
                 lanes: 1,
             };
             run_input(rt, alloc, how, input, output, gate)
         }
-        Mode::Storm => {
+        Task::Storm => {
             let how = InputRun {
-                mode: RunMode::Storm,
+                mode: Mode::Storm,
                 workers: command.workers,
                 lanes: command.lanes,
             };
             run_input(rt, alloc, how, input, output, gate)
         }
-        Mode::Grind => grind_seed(rt, alloc, command.seed, command.workers, output),
+        Task::Grind => grind_seed(rt, alloc, command.seed, command.workers, output),
     }
 }

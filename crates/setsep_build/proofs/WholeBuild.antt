@@ -28,13 +28,13 @@ use Rattle.setsep_build.proofs.Lifted.{apart, lifted_image, no_flow, opened}
 use Rattle.setsep_build.proofs.Lists.{filter_mapped}
 use Rattle.setsep_build.proofs.Permuted.{filter_permuted, image_alike, past_alike, within_alike}
 
--- the images of so many blocks from `from` on, none of which is past a limit
+-- the images of `count` blocks from `from` on, none of which is past a limit
 pub record AreBuilt (size : Size) (flows : List Flow) (from count : ℕ) (images : List Image) : Type 0 where
   pub within : first_past_limit count from size flows ≡ None
   pub one_each : length images ≡ count
   pub each : (place : ℕ) (d : Image) → place < count → IsImage size flows (from + place) (get_or images place d)
 
--- what so many blocks from `from` on give
+-- what `count` blocks from `from` on give
 abbrev pub IsMade : Size → List Flow → (from count : ℕ) → Result (List Image) BuildRefused → Type 0
 IsMade size flows from count made =
     MatchResult made (AreBuilt size flows from count) (λ why. IfSome (named_limit why) (λ (past : PastLimit). first_past_limit count from size flows ≡ Some past))

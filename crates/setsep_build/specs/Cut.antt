@@ -11,7 +11,7 @@ Cover from end (run ∷ cut) = (run.first ≡ from) × Cover (from + run.count) 
 abbrev pub AreEven : List Run → Type 0
 AreEven cut = All (λ (a : Run). All (λ (b : Run). a.count ≤ b.count + 1) cut) cut
 
--- so many runs that cover so many blocks in their order, and whose lengths differ by at most one
+-- runs that cover the blocks in their order, and whose lengths differ by at most one
 pub record IsCut (blocks runs : ℕ) (cut : List Run) : Type 0 where
   pub one_each : length cut ≡ runs
   pub covers : Cover 0 blocks cut

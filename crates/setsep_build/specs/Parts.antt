@@ -23,12 +23,12 @@ pub record AreReady (bits : ℕ) (all : List Placed) : Type 0 where
 abbrev pub IsNumbered : Run → Type 0
 IsNumbered run = run.first + run.count < 2 ^ 16
 
--- these are the images of so many blocks from `first` on, in their order; none is past a limit
+-- these are the images of `count` blocks from `first` on, in their order; none is past a limit
 pub record AreImagesOf (bits : ℕ) (all : List Placed) (first count : ℕ) (images : List Image) : Type 0 where
   pub one_each : length images ≡ count
   pub each : (place : ℕ) (d : Image) → place < count → IsImageOf bits (placed_in (first + place) all) (slice_index_or images place d)
 
--- of so many blocks from `first` on this is the first that is past a limit
+-- of `count` blocks from `first` on this is the first that is past a limit
 pub record IsFirstPastIn (bits : ℕ) (all : List Placed) (first count : ℕ) (past : PastLimit) : Type 0 where
   pub from_first : first ≤ block_of past
   pub in_run : block_of past < first + count

@@ -6,7 +6,7 @@ use Rattle.flow_types.specs.declared.record.Flow.{Flow}
 use Rattle.flow_types.specs.Key.{number}
 use Rattle.hash_family.specs.declared.bucket.Place.{Place}
 use Rattle.hash_family.specs.Hash.{pair, place}
-use Rattle.block_layout.specs.Limits.{bucket_count}
+use Rattle.block_layout.specs.Limits.{bucket_count, group_count}
 use Rattle.group_search.specs.declared.entry.Entry.{Entry}
 use Rattle.group_search.specs.Home.{group_of}
 use Rattle.setsep_build.specs.declared.cutting.Run.{Run}
@@ -90,4 +90,4 @@ gathered groups group all = map entry_in (filter (is_group groups group) all)
 
 -- each group of the block has its entries
 abbrev pub AreGathered : (groups : List ℕ) → List Placed → List (List Entry) → Type 0
-AreGathered groups all found = (group : ℕ) → group < 64 → slice_index_or found group [] ≡ gathered groups group all
+AreGathered groups all found = (group : ℕ) → group < group_count → slice_index_or found group [] ≡ gathered groups group all

@@ -2,10 +2,11 @@
 use Rattle.std.specs.Prelude.{ℕ, ◌+◌, ◌*◌, ◌/◌, max, min}
 use Rattle.block_layout.specs.Limits.{group_count}
 
+-- a build has at most 64 workers
 abbrev pub most_workers : ℕ
 most_workers = 64
 
--- it pays to start a worker for so many flows and groups
+-- it pays to start a worker for this number of flows and groups
 abbrev pub worth_a_worker : ℕ
 worth_a_worker = 1024
 

@@ -1,16 +1,16 @@
-ghost use Rattle.std.specs.Prelude.{◌≡◌, ◌<◌, ◌≤◌, All, IfOk, IfErr, length, map, slice_index_or};
+ghost use Rattle.std.specs.Prelude.{◌≡◌, ◌⊎◌, ◌<◌, ◌≤◌, All, Ok, Err, IfOk, IfErr, length, map, slice_index_or};
 ghost use Rattle.setsep_build.specs.declared.cutting.Run.{Run};
 ghost use Rattle.flow_types.specs.Map.{AreDistinct};
 ghost use Rattle.group_search.specs.Build.{IsBuild};
 ghost use Rattle.group_search.specs.Records.{AreHandled};
 ghost use Rattle.flow_types.specs.Size.{value_bits};
-ghost use Rattle.setsep_build.specs.Parts.{ArePartsOf, IsNumbered, IsPartOf};
+ghost use Rattle.setsep_build.specs.Parts.{ArePartsOf, IsNumbered, IsPartOf, joined};
+ghost use Rattle.group_search.specs.declared.image.BlockImage.{BlockImage};
 ghost use Rattle.setsep_build.specs.Placing.{place_of, placed};
 ghost use Rattle.setsep_build.specs.Refused.{Refuses};
 ghost use Rattle.setsep_build.specs.Workers.{most_workers};
 
 use crate::cutting::{Run, cut, runs_for};
-use crate::joining::join_parts;
 use crate::placing::places_of;
 use crate::refused::BuildRefused;
 use crate::running::part_of;
@@ -69,4 +69,19 @@ fn all_parts<R: Threads + Sync>(
         ensures { (run : Run) → IsPartOf (λ images. images.items) (value_bits shape.nodes) (map (placed shape.blocks) flows.entry.now) (slice_index_or cut.entry.now at run) result }
     { part_of(rt, alloc, shape, flows, places, cut[at]) };
     map_indices(rt, alloc, cut.len(), &part)
+}
+
+/// The images of all parts in their order, or the refusal of the first part that is refused.
+fn join_parts(
+    alloc: Global,
+    parts: Vec<Result<Vec<BlockImage>, BuildRefused>>,
+) -> Result<Vec<BlockImage>, BuildRefused>
+    ensures images { IfOk result (λ images. joined (λ images. images.items) parts.items ≡ Ok images.items) }
+    ensures refused { IfErr result (λ why. (why ≡ BuildRefused.OutOfMemory) ⊎ (joined (λ images. images.items) parts.items ≡ Err why)) }
+{
+    let mut images = Vec::new(alloc);
+    'parts: for part in parts {
+        images.append(&mut part?)?;
+    }
+    Ok(images)
 }

@@ -24,11 +24,11 @@ impl Run {
     }
 }
 
-/// How much work makes it worth to start a worker: so many searches of a group or of a flow's place in one. They take some
-/// ten times as long as to start a thread.
+/// How many searches, of a group or of a flow's place in one, make it worth to start a worker. They take some ten times as
+/// long as to start a thread.
 pub const WORTH_A_WORKER: usize = 1_024;
 
-/// So many blocks in so many runs of neighbours.
+/// The blocks of a table, cut into this number of runs of neighbours.
 pub fn cut(alloc: Global, blocks: u16, runs: u16) -> Result<Vec<Run>, AllocError>
     requires { 1 ≤ runs }
     ensures { IfOk result (λ cut. IsCut blocks runs cut.items) }

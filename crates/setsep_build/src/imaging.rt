@@ -1,16 +1,15 @@
-ghost use Rattle.std.specs.Prelude.{◌≤◌, IfOk, IfErr};
+ghost use Rattle.std.specs.Prelude.{◌≡◌, ◌≤◌, IfOk, IfErr, length, sum};
 ghost use Rattle.flow_types.specs.Map.{HaveDistinctKeys};
-ghost use Rattle.setsep_build.specs.Placing.{placed_key};
+ghost use Rattle.setsep_build.specs.Placing.{placed_key, sizes_in};
+ghost use Rattle.block_layout.specs.Limits.{most_keys};
 ghost use Rattle.flow_types.specs.Size.{most_value_bits};
 ghost use Rattle.setsep_build.specs.Block.{IsImageOf, RefusesBlock};
 
-use crate::gathering::groups_of;
-use crate::groups::Groups;
+use crate::groups::{Groups, groups_of};
 use crate::placed::Placed;
 use crate::records::records_of;
 use crate::refused::BuildRefused;
-use crate::sizing::bucket_sizes;
-use block_layout::choose;
+use block_layout::{BUCKETS, choose};
 use group_search::{BlockImage, MOST_ENTRIES, MOST_ROWS};
 use std::alloc::Global;
 
@@ -40,4 +39,17 @@ pub fn image_of(
         });
     }
     Ok(BlockImage::new(choices, records.kept))
+}
+
+/// How many of a block's flows each bucket has.
+fn bucket_sizes(placed: &[Placed]) -> [u16; BUCKETS]
+    requires { length placed.now ≤ most_keys }
+    ensures each { result ≡ sizes_in placed.now }
+    ensures total { sum result ≡ length placed.now }
+{
+    let mut sizes = [0; BUCKETS];
+    'placed: for one in placed {
+        sizes[one.bucket as usize] += 1;
+    }
+    sizes
 }

@@ -1,5 +1,5 @@
 ghost use Rattle.std.specs.Prelude.{◌≡◌};
-ghost use Rattle.setsep_build.specs.Placing.{entry_in};
+ghost use Rattle.setsep_build.specs.Placing as placing;
 
 use flow_types::FlowKey;
 use group_search::Entry;
@@ -21,7 +21,7 @@ pub struct Placed {
 impl Placed {
     /// The flow as an entry of its group. The key is hashed here.
     pub fn entry(&self) -> Entry
-        ensures { result ≡ entry_in self.now }
+        ensures { result ≡ placing.entry_in self.now }
     {
         Entry {
             pair: pair(self.key),
@@ -29,4 +29,16 @@ impl Placed {
             node: self.node,
         }
     }
+}
+
+/// The flows of a block among flows that stand in order.
+pub fn placed_in(all: &[Placed], block: u16) -> &[Placed]
+    requires { placing.AreInOrder all.now }
+    ensures { result.now ≡ placing.placed_in block all.now }
+{
+    let start = all.partition_point(|one| one.block < block);
+    let (_, from_start) = all.split_at(start);
+    let count = from_start.partition_point(|one| one.block <= block);
+    let (found, _) = from_start.split_at(count);
+    found
 }

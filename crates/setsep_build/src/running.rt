@@ -5,10 +5,9 @@ ghost use Rattle.setsep_build.specs.Parts.{AreReady, IsNumbered, IsPartOf};
 ghost use Rattle.setsep_build.specs.Placing.{place_of, placed};
 
 use crate::cutting::Run;
-use crate::finding::placed_in;
 use crate::groups::Groups;
 use crate::imaging::image_of;
-use crate::placed::Placed;
+use crate::placed::{Placed, placed_in};
 use crate::placing::place_run;
 use crate::refused::BuildRefused;
 use flow_types::{Flow, Shape};

@@ -6,23 +6,21 @@ use Rattle.std.proofs.lemmas.List.{length-map}
 use Rattle.std.proofs.lemmas.Option.{slice_get-get_or, slice_get_past, slice_get_within}
 use mathlib.Core.List.{IsPrefix}
 use Rattle.flow_types.specs.declared.key.FlowKey.{FlowKey}
-use Rattle.flow_types.specs.Size.{IsShape, Size}
+use Rattle.flow_types.specs.Size.{IsShape, Size, owners_in}
 use Rattle.hash_family.specs.Hash.{place}
 use Rattle.group_search.specs.declared.published.Publication.{Publication}
 use Rattle.group_search.specs.Owned.{IsOwned}
-use Rattle.group_search.specs.Published.{Extends}
 use Rattle.delta_codec.specs.declared.message.FibMessage.{FibMessage}
 use Rattle.replica_shard.specs.declared.shard.Shard.{Shard}
 use Rattle.replica_shard.specs.Shard.{home_in_state, route_in_state}
 use Rattle.replica_shard.specs.Store.{shard_state_of}
 use Rattle.partial_fib.specs.Ends.{ReaderState, shared_after}
-use Rattle.partial_fib.proofs.Prefixes.{prefix_self}
-use Rattle.replay_model.specs.declared.reply.Reply.{Reply}
+use Rattle.flow_types.proofs.Prefixes.{prefix_self}
+use Rattle.run_model.specs.declared.reply.Reply.{Reply}
 use Rattle.packet_path.specs.Fibs.{turns_at}
 use Rattle.packet_path.specs.Seated.{Viewed}
 use Rattle.packet_path.proofs.Asking.{set-elsewhere, set-here}
-use Rattle.packet_path.proofs.Lists.{extends-itself}
-use Rattle.storm_model.specs.Lists.{IsLater, owners_in, reply_by_lists, reply_routed, with_list}
+use Rattle.storm_model.specs.Lists.{IsLater, reply_by_lists, reply_routed, with_list}
 use Rattle.storm_model.specs.Merging.{owner_of_key}
 use Rattle.storm_model.proofs.Lists.{owner_has}
 use Rattle.storm_lane.specs.Lane.{AreWhole, IsLane, IsWhole, LaneState, all_seats, fib_part, lists_of, parts_of, shard_of, table_part, table_shard, tables_of, turns_of}
@@ -81,10 +79,10 @@ module _ (readers : List ReadersState) (owner : ℕ) (old new : ReadersState) (t
     tables = λ node other.
         ⊎_elim
         (λ (is : other ≡ owner).
-        subst (λ (o : ℕ). Extends (tables_of (slice_get readers o) node) (tables_of (slice_get after o) node)) (sym is)
-        (subst (λ (p : Option ReadersState × Option ReadersState). Extends (tables_of p.0 node) (tables_of p.1 node)) (λ i. (sym there i, sym here i)) (more.tables node)))
+        subst (λ (o : ℕ). IsPrefix (tables_of (slice_get readers o) node) (tables_of (slice_get after o) node)) (sym is)
+        (subst (λ (p : Option ReadersState × Option ReadersState). IsPrefix (tables_of p.0 node) (tables_of p.1 node)) (λ i. (sym there i, sym here i)) (more.tables node)))
         (λ (apart : other ≢ owner).
-        subst (λ (r : Option ReadersState). Extends (tables_of (slice_get readers other) node) (tables_of r node)) (sym (elsewhere other apart)) (extends-itself (tables_of (slice_get readers other) node)))
+        subst (λ (r : Option ReadersState). IsPrefix (tables_of (slice_get readers other) node) (tables_of r node)) (sym (elsewhere other apart)) (prefix_self (tables_of (slice_get readers other) node)))
         (cases_eq other owner);
     fibs = λ node other.
         ⊎_elim

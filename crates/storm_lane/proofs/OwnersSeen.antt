@@ -12,7 +12,6 @@ use Rattle.hash_family.specs.Hash.{place}
 use Rattle.group_search.specs.declared.published.Publication.{Publication}
 use Rattle.group_search.specs.Home.{Home}
 use Rattle.group_search.specs.Owned.{IsOwned}
-use Rattle.group_search.specs.Published.{Extends}
 use Rattle.delta_codec.specs.declared.message.FibMessage.{FibMessage}
 use Rattle.replica_shard.specs.declared.shard.Shard.{Shard}
 use Rattle.replica_shard.specs.Shard.{home_in_state, route_in_state}
@@ -20,13 +19,12 @@ use Rattle.replica_shard.specs.Store.{ShardStore, shard_state_of}
 use Rattle.partial_fib.specs.Ends.{ReaderState}
 use Rattle.partial_fib.specs.Fib.{FibState}
 use Rattle.partial_fib.specs.Store.{FibStore}
-use Rattle.partial_fib.proofs.Prefixes.{prefix_self}
-use Rattle.replay_model.specs.declared.reply.Reply.{Reply}
+use Rattle.flow_types.proofs.Prefixes.{prefix_self}
+use Rattle.run_model.specs.declared.reply.Reply.{Reply}
 use Rattle.packet_path.specs.Fibs.{AreFibsOf, AsksOne, IsFibOf, fib_seen, turns_at}
 use Rattle.packet_path.specs.Path.{answered_by, path_by}
 use Rattle.packet_path.specs.Seated.{Viewed}
 use Rattle.packet_path.proofs.Asking.{is-there, opening-is, set-elsewhere, set-here, turns-is}
-use Rattle.packet_path.proofs.Lists.{extends-itself}
 use Rattle.storm_model.specs.Lists.{reply_routed, with_list}
 use Rattle.storm_lane.specs.Readers.{AreOthersAsBefore, AreOwners, HaveSeenMore, ReadersState, owner_reply, records_at, seats_of, table_opened}
 use Rattle.storm_lane.proofs.Rows.{made-before, made-elsewhere, made-here, map-alike, map-kept, map-there, slice_get-append}
@@ -102,15 +100,15 @@ module _ (before : ReadersState) (node : ℕ) (old new : Viewed) (there : slice_
   pub records-here : records_at after.views node ≡ new.list
   records-here = made-here list_of_view before.views node old new there []
 
-  pub seen-more : Extends old.list new.list → ((n : ℕ) → IsPrefix (turns_at before.fibs n) (turns_at fibs n)) → HaveSeenMore before after
+  pub seen-more : IsPrefix old.list new.list → ((n : ℕ) → IsPrefix (turns_at before.fibs n) (turns_at fibs n)) → HaveSeenMore before after
   seen-more longer more = record {
     tables = λ other.
         ⊎_elim
         (λ (is : other ≡ node).
-        subst (λ (n : ℕ). Extends (records_at before.views n) (records_at after.views n)) (sym is)
-        (subst (λ (p : List Publication × List Publication). Extends p.0 p.1) (λ i. (sym (made-before list_of_view before.views node old new there []) i, sym records-here i)) longer))
+        subst (λ (n : ℕ). IsPrefix (records_at before.views n) (records_at after.views n)) (sym is)
+        (subst (λ (p : List Publication × List Publication). IsPrefix p.0 p.1) (λ i. (sym (made-before list_of_view before.views node old new there []) i, sym records-here i)) longer))
         (λ (apart : other ≢ node).
-        subst (Extends (records_at before.views other)) (sym (made-elsewhere list_of_view before.views node old new there [] other apart)) (extends-itself (records_at before.views other)))
+        subst (IsPrefix (records_at before.views other)) (sym (made-elsewhere list_of_view before.views node old new there [] other apart)) (prefix_self (records_at before.views other)))
         (cases_eq other node);
     fibs = more;
   }
@@ -159,7 +157,7 @@ module _ (before : ReadersState) (are : AreOwners (seats_of before)) (whole : le
     pub path-owners : AreOwners (seats_of left)
     path-owners = subst AreOwners (sym path-seats) are
 
-    pub path-more : Extends old.list new.list → HaveSeenMore before left
+    pub path-more : IsPrefix old.list new.list → HaveSeenMore before left
     path-more longer =
         seen-more before ingress old new view-there view-low put longer
         (λ n. subst (λ (rs : List ReaderState). IsPrefix (turns_at before.fibs n) (turns_at rs n)) (sym is_put) (fibs-more asked before.fibs fibs asks n))
@@ -220,7 +218,7 @@ module _ (before : ReadersState) (are : AreOwners (seats_of before)) (node : ℕ
       fibs = λ other apart. set-elsewhere before.fibs node other told apart;
     }
 
-    pub met-more : Extends old.list new.list → HaveSeenMore before met
+    pub met-more : IsPrefix old.list new.list → HaveSeenMore before met
     met-more more =
         seen-more before node old new its-view view-in met.fibs more
         (λ other.

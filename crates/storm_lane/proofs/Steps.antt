@@ -6,11 +6,12 @@ use Rattle.flow_types.specs.declared.key.FlowKey.{FlowKey}
 use Rattle.flow_types.specs.Size.{Size}
 use Rattle.packet_reader.specs.declared.event.Event.{Event}
 use Rattle.packet_reader.specs.declared.event.Event.TheVariants.{Set, Del, Packet, Carry, Sync}
-use Rattle.replay_model.specs.declared.reply.Reply.{Reply}
+use Rattle.run_model.specs.declared.reply.Reply.{Reply}
 use Rattle.storm_model.specs.Lists.{IsLater, Lists, Parts, SaysByLists, reply_by_lists}
+use Rattle.storm_model.specs.Merging.{behind_with}
 use Rattle.storm_model.specs.Phase.{packets_after}
 use Rattle.storm_model.specs.Walk.{TakesNext, Walk}
-use Rattle.storm_lane.specs.Stepping.{TakesStep, WalksBehind, WalksSoFar, behind_with}
+use Rattle.storm_lane.specs.Stepping.{TakesStep, WalksBehind, WalksSoFar}
 use Rattle.storm_model.proofs.Lists.{later-on, later-same}
 
 module _ (size : Size) (parts : Parts) (lanes lane : ℕ) where

@@ -2,18 +2,18 @@
 use Rattle.std.specs.Prelude.{◌≡◌, ℕ, ◌<◌, Bool, List, [], length, map, slice_index_or, Option, Some, None}
 use Rattle.std.specs.List.{slice_get}
 use Rattle.logbook.specs.Pages.{Book}
-use Rattle.flow_types.specs.Size.{Size}
+use Rattle.flow_types.specs.Size.{Size, owners_in}
 use Rattle.group_search.specs.declared.published.Publication.{Publication}
 use Rattle.delta_codec.specs.declared.message.FibMessage.{FibMessage}
 use Rattle.replica_shard.specs.declared.shard.Shard.{Shard}
 use Rattle.replica_shard.specs.Store.{ShardStore}
 use Rattle.partial_fib.specs.Store.{FibStore}
-use Rattle.replay_model.specs.declared.reply.Reply.{Reply}
+use Rattle.run_model.specs.declared.reply.Reply.{Reply}
 use Rattle.packet_path.specs.Fibs.{no_fib, turns_at}
-use Rattle.storm_model.specs.Lists.{Lists, Parts, owners_in}
+use Rattle.storm_model.specs.Lists.{Lists, Parts}
 use Rattle.storm_lane.specs.Readers.{ReadersState, Seats, no_table, records_at, seats_of, table_at}
 
--- the cluster's size, the lane's number among so many lanes, its readers by owner, its replies, and whether it met want of memory
+-- the cluster's size, the lane's number, how many lanes there are, its readers by owner, its replies, and whether it met want of memory
 pub record LaneState : Type 0 where
   pub size : Size
   pub number : ℕ

@@ -7,14 +7,13 @@ use Rattle.flow_types.specs.declared.key.FlowKey.{FlowKey}
 use Rattle.flow_types.specs.Size.{Size}
 use Rattle.hash_family.specs.Hash.{place}
 use Rattle.group_search.specs.declared.published.Publication.{Publication}
-use Rattle.group_search.specs.Published.{Extends}
 use Rattle.replica_shard.specs.declared.shard.Shard.{Shard}
 use Rattle.replica_shard.specs.Seats.{shard_at}
 use Rattle.replica_shard.specs.Shard.{home_in_state, route_in_state}
 use Rattle.replica_shard.specs.Store.{ShardStore, shard_state_of}
 use Rattle.partial_fib.specs.Ends.{ReaderState}
 use Rattle.partial_fib.specs.Store.{FibStore}
-use Rattle.replay_model.specs.declared.reply.Reply.{Reply}
+use Rattle.run_model.specs.declared.reply.Reply.{Reply}
 use Rattle.packet_path.specs.Fibs.{IsFibOf, fib_seen, turns_at}
 use Rattle.packet_path.specs.Seated.{Viewed}
 use Rattle.storm_model.specs.Lists.{reply_routed, with_list}
@@ -57,7 +56,7 @@ records_at views node = slice_index_or (map (λ (v : Viewed). v.list) views) nod
 
 -- each reader has seen the same, and perhaps more
 pub record HaveSeenMore (before after : ReadersState) : Type 0 where
-  pub tables : (node : ℕ) → Extends (records_at before.views node) (records_at after.views node)
+  pub tables : (node : ℕ) → IsPrefix (records_at before.views node) (records_at after.views node)
   pub fibs : (node : ℕ) → IsPrefix (turns_at before.fibs node) (turns_at after.fibs node)
 
 -- the readers of the other nodes are as they were

@@ -1,23 +1,16 @@
 -- A lane's steps along the events of a phase.
-use Rattle.std.specs.Prelude.{◌≡◌, ℕ, ◌<◌, List, [], ◌∷◌, ◌++◌, Option, Some, None}
+use Rattle.std.specs.Prelude.{◌≡◌, ℕ, ◌<◌, List, ◌∷◌, ◌++◌, Option}
 use Rattle.flow_types.specs.Size.{Size}
 use Rattle.packet_reader.specs.declared.event.Event.{Event}
 use Rattle.packet_reader.specs.declared.event.Event.TheVariants.{Packet}
-use Rattle.replay_model.specs.declared.reply.Reply.{Reply}
+use Rattle.run_model.specs.declared.reply.Reply.{Reply}
 use Rattle.storm_model.specs.Lists.{IsLater, Lists, Parts, WalksByLists}
+use Rattle.storm_model.specs.Merging.{with_said}
 
 -- a packet enters at a node of the cluster
 abbrev pub Enters : Size → Event → Type 0
 Enters size (Packet ingress key) = ingress < size.nodes
 Enters size event = Unit {0}
-
-abbrev pub with_said : Option Reply → List Reply → List Reply
-with_said None rest = rest
-with_said (Some reply) rest = reply ∷ rest
-
-abbrev pub behind_with : List Reply → Option Reply → List Reply
-behind_with replies None = replies
-behind_with replies (Some reply) = replies ++ reply ∷ []
 
 -- a walk that goes on after the event is one from the event on
 pub record TakesStep (size : Size) (parts : Parts) (lanes lane : ℕ) (event : Event) (packet after : ℕ) (from now : Lists) (said : Option Reply) : Type 0 where

@@ -10,7 +10,7 @@ use flow_types::Shape;
 use packet_path::TableSeat;
 use packet_reader::Event;
 use partial_fib::FibWriter;
-use replay_model::Reply;
+use run_model::Reply;
 use sb_io::Gate;
 use std::alloc::Global;
 use std::marker::Model;
@@ -39,7 +39,7 @@ impl Model for Lane {
 }
 
 impl Lane {
-    /// A lane of so many lanes, with readers of each owner that has a block, in the order of the owners.
+    /// The lane of this number among the lanes, with readers of each owner that has a block, in the order of the owners.
     ///
     /// Of each owner there are readers of each node.
     pub fn new(

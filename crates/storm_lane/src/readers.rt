@@ -9,7 +9,7 @@ use flow_types::{FlowKey, Shape};
 use out_of_memory::OutOfMemory;
 use packet_path::{TableSeat, ViewSeat};
 use partial_fib::{FibReader, FibWriter, told};
-use replay_model::Reply;
+use run_model::Reply;
 use std::alloc::Global;
 use std::marker::Model;
 use std::sync::Wait;

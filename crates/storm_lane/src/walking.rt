@@ -1,10 +1,10 @@
 //! A lane's walk along the events of a phase.
 ghost use Rattle.std.specs.Prelude.{◌≡◌, ◌+◌, ◌<◌, ◌≤◌, ◌^◌, ◌∷◌, [], length, All, OnOk};
 ghost use Rattle.storm_model.specs.Lists.{IsLater, reply_by_lists};
-ghost use Rattle.storm_model.specs.Merging.{owner_of_key};
+ghost use Rattle.storm_model.specs.Merging.{behind_with, owner_of_key};
 ghost use Rattle.storm_model.specs.Phase.{packets_after};
 ghost use Rattle.storm_lane.specs.Lane.{AreWhole, all_seats, lists_of, parts_of};
-ghost use Rattle.storm_lane.specs.Stepping.{Enters, TakesStep, WalksBehind, behind_with};
+ghost use Rattle.storm_lane.specs.Stepping.{Enters, TakesStep, WalksBehind};
 
 use crate::readers::OwnerReaders;
 use flow_types::laws::numbers_of_a_shape;
@@ -12,7 +12,7 @@ use flow_types::{FlowKey, Shape};
 use hash_family::place;
 use out_of_memory::OutOfMemory;
 use packet_reader::Event;
-use replay_model::Reply;
+use run_model::Reply;
 use sb_io::{Gate, Who};
 use std::sync::Wait;
 

@@ -1,7 +1,7 @@
 -- Each owner by itself.
 use Rattle.std.proofs.Common.{refl}
 use Rattle.group_search.specs.Home.{home}
-use Rattle.replay_model.specs.Updates.{update_reply}
+use Rattle.run_model.specs.Updates.{update_reply}
 use Rattle.storm_model.specs.Laws.{IdleOwnersSayNothing, OwnersAnswerAlone, OwnersEndAlone}
 use Rattle.storm_model.proofs.Idle.{accepts-nothing, says-nothing}
 use Rattle.storm_model.proofs.Owned.{after-other, after-own}

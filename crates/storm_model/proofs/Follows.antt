@@ -3,26 +3,24 @@ use Rattle.std.proofs.Common.{◌≡◌, ◌∙◌, ◌+◌, ◌<◌, ◌≤◌,
 use Rattle.std.proofs.lemmas.Bool.{cases_lt, le-ltb, lt-ltb}
 use Rattle.std.proofs.lemmas.List.{take-append-le, take_all}
 use Rattle.flow_types.specs.declared.record.Flow.{Flow}
-use Rattle.flow_types.specs.Size.{Size}
+use Rattle.flow_types.specs.Size.{Size, owners_in}
 use Rattle.group_search.specs.declared.published.Publication.{Publication}
 use Rattle.group_history.specs.declared.change.Change.{Change}
 use Rattle.delta_codec.specs.declared.message.FibMessage.{FibMessage}
 use Rattle.delta_codec.specs.declared.message.TableMessage.{TableMessage}
-use Rattle.replica_shard.specs.Message.{IsTableMessage}
+use Rattle.delta_codec.specs.Messages.{IsTableMessage, message_after, messages_after}
 use Rattle.replica_shard.specs.Owners.{publication_of}
 use Rattle.replica_shard.specs.Shard.{ShardState, shard_after, with_content}
 use Rattle.replica_shard.specs.Store.{ShardStore, shard_state_of}
-use Rattle.replica_shard.specs.Turns.{IsOfOwner}
+use Rattle.delta_codec.specs.Journals.{IsOfOwner, IsJournalOf}
 use Rattle.replica_shard.proofs.TurnFacts.{goes_on}
-use Rattle.partial_fib.specs.Message.{message_after, messages_after}
 use Rattle.storm_model.specs.Follows.{AreOpenedParts, FibFollows, HaveTaken, TableFollows}
 use Rattle.partial_fib.specs.Fib.{fib_after}
-use Rattle.partial_fib.specs.Message.{IsJournalOf}
 use Rattle.partial_fib.specs.Store.{state_of}
 use Rattle.packet_reader.specs.declared.event.Part.{Part}
 use Rattle.packet_reader.specs.declared.event.Part.TheVariants.{Table, Fib}
-use Rattle.replay_model.specs.State.{Journals, ClusterOpening, journal_of}
-use Rattle.storm_model.specs.Lists.{AreTurns, Lists, Parts, owners_in, stood_at, with_list}
+use Rattle.run_model.specs.State.{Journals, ClusterOpening, journal_of}
+use Rattle.storm_model.specs.Lists.{AreTurns, Lists, Parts, stood_at, with_list}
 use Rattle.storm_model.specs.Run.{AreJournals}
 use Rattle.storm_model.specs.Stood.{all_seen}
 

@@ -3,8 +3,8 @@ use Rattle.std.proofs.Common.{◌≡◌, ◌∙◌, ◌<◌, ℕ, List, [], leng
 use Rattle.std.proofs.lemmas.List.{ext_get_or}
 use Rattle.flow_types.specs.Size.{IsShape}
 use Rattle.packet_reader.specs.declared.event.Event.{Event}
-use Rattle.replay_model.specs.Allowed.{phase_end}
-use Rattle.replay_model.specs.State.{Journals, ClusterOpening, journal_of}
+use Rattle.run_model.specs.Allowed.{phase_end}
+use Rattle.run_model.specs.State.{Journals, ClusterOpening, journal_of}
 use Rattle.storm_model.specs.Lists.{IsLater, SaysByLists}
 use Rattle.storm_model.specs.Merging.{CanMerge, Queues}
 use Rattle.storm_model.specs.Laws.{CanBeSaid, LanesWalkByTurns, PhasesAreSaid}

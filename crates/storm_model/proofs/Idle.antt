@@ -6,11 +6,11 @@ use Rattle.std.proofs.lemmas.List.Elements.{All-head, All-tail}
 use Rattle.group_history.specs.declared.change.Change.{Change}
 use Rattle.packet_reader.specs.declared.event.Event.{Event}
 use Rattle.packet_reader.specs.declared.event.Event.TheVariants.{Set, Del, Packet, Carry, Sync}
-use Rattle.rib_owner.specs.Acceptance.{updated_key}
-use Rattle.rib_owner.specs.declared.update.Update.{Update}
-use Rattle.rib_owner.specs.declared.update.Update.TheVariants as update
-use Rattle.replay_model.specs.State.{ClusterOpening}
-use Rattle.replay_model.specs.Updates.{update_owner}
+use Rattle.group_history.specs.Acceptance.{updated_key}
+use Rattle.group_history.specs.declared.update.Update.{Update}
+use Rattle.group_history.specs.declared.update.Update.TheVariants as update
+use Rattle.run_model.specs.State.{ClusterOpening}
+use Rattle.run_model.specs.Updates.{update_owner}
 use Rattle.storm_model.specs.Merging.{owner_of_key}
 use Rattle.storm_model.specs.Owners.{HasNoUpdate, IsNotOf, own_changes, own_replies}
 use Rattle.storm_model.proofs.Owned.{owner-key}

@@ -7,11 +7,11 @@ use Rattle.flow_types.specs.Size.{IsShape}
 use Rattle.group_history.specs.declared.change.Change.{Change}
 use Rattle.packet_reader.specs.declared.event.Event.{Event}
 use Rattle.packet_reader.specs.declared.event.Event.TheVariants.{Set, Del, Packet, Carry, Sync}
-use Rattle.rib_owner.specs.declared.update.Update.{Update}
-use Rattle.rib_owner.specs.declared.update.Update.TheVariants as update
-use Rattle.replay_model.specs.declared.reply.Reply.{Reply}
-use Rattle.replay_model.specs.State.{Journals, ClusterOpening, journal_of}
-use Rattle.replay_model.specs.Updates.{after_update, update_owner}
+use Rattle.group_history.specs.declared.update.Update.{Update}
+use Rattle.group_history.specs.declared.update.Update.TheVariants as update
+use Rattle.run_model.specs.declared.reply.Reply.{Reply}
+use Rattle.run_model.specs.State.{Journals, ClusterOpening, journal_of}
+use Rattle.run_model.specs.Updates.{after_update, update_owner}
 use Rattle.storm_model.specs.Merging.{CanMerge, Merged, Queues, with_queue}
 use Rattle.storm_model.specs.Owners.{own_after, own_replies, own_reply}
 use Rattle.storm_model.specs.Phase.{IsOnePhase}

@@ -4,21 +4,21 @@ use Rattle.std.specs.Prelude.{◌==◌, All}
 use Rattle.std.proofs.lemmas.Bool.{cases_lt, eqb-true}
 use Rattle.std.proofs.lemmas.List.{get_or_past, length-replicate}
 use Rattle.std.proofs.lemmas.List.Elements.{All-head, All-nil, All-push, All-tail}
-use Rattle.flow_types.specs.Size.{IsShape}
+use Rattle.flow_types.specs.Size.{IsShape, owners_in}
 use Rattle.group_history.specs.declared.change.Change.{Change}
-use Rattle.delta_codec.specs.Values.{IsKeyValue}
+use Rattle.flow_types.specs.Key.{IsKeyValue}
 use Rattle.packet_reader.specs.declared.event.Event.{Event}
 use Rattle.packet_reader.specs.declared.event.Event.TheVariants.{Set, Del, Packet, Carry, Sync}
-use Rattle.partial_fib.specs.Message.{IsJournalOf, IsOwnChange}
-use Rattle.rib_owner.specs.declared.refused.UpdateRefused.{UpdateRefused}
-use Rattle.rib_owner.specs.declared.update.Update.{Update}
-use Rattle.rib_owner.specs.declared.update.Update.TheVariants as update
-use Rattle.rib_owner.specs.Acceptance.{change_of, updated_key}
-use Rattle.replay_model.specs.Allowed.{phase_end}
-use Rattle.replay_model.specs.Laws.{CanBeOpened, no_journals}
-use Rattle.replay_model.specs.State.{ClusterOpening, journal_of, owners_in}
-use Rattle.replay_model.specs.Updates.{update_owner}
-use Rattle.replay_model.proofs.Accepting.{empty-journal, sound-end, sound-first}
+use Rattle.delta_codec.specs.Journals.{IsJournalOf, IsOwnChange}
+use Rattle.group_history.specs.declared.refused.UpdateRefused.{UpdateRefused}
+use Rattle.group_history.specs.declared.update.Update.{Update}
+use Rattle.group_history.specs.declared.update.Update.TheVariants as update
+use Rattle.group_history.specs.Acceptance.{change_of, updated_key}
+use Rattle.run_model.specs.Allowed.{phase_end}
+use Rattle.run_model.specs.Laws.{CanBeOpened, no_journals}
+use Rattle.run_model.specs.State.{ClusterOpening, journal_of}
+use Rattle.run_model.specs.Updates.{update_owner}
+use Rattle.run_model.proofs.Accepting.{empty-journal, sound-end, sound-first}
 use Rattle.storm_model.specs.Laws.{JournalsGoOn}
 use Rattle.storm_model.specs.Merging.{owner_of_key}
 use Rattle.storm_model.specs.Owners.{HasNoUpdate, IsNotOf, changes_by, own_after, own_changes, own_verdict}

@@ -1,5 +1,5 @@
 -- What the readers of a lane have seen are the first turns of the owners, and their replies are those of the model.
-use Rattle.std.proofs.Common.{◌≡◌, ◌∙◌, ◌%◌, ◌<◌, ◌≤◌, ℕ, true, List, [], ◌++◌, length, take, Option, Some, None, refl, sym, ap, subst, arith, length-append, append_assoc, append-nil}
+use Rattle.std.proofs.Common.{◌≡◌, ◌∙◌, ◌%◌, ◌<◌, ◌≤◌, ℕ, true, List, [], length, take, Option, Some, None, refl, sym, ap, subst, arith, length-append}
 use Rattle.std.specs.Prelude.{All, fold}
 use Rattle.std.proofs.lemmas.Bool.{and_from, cond-true, eq-eqb}
 use Rattle.std.proofs.lemmas.Bool.Decides.{nat_tests}
@@ -7,36 +7,34 @@ use Rattle.std.proofs.Math.Seq.{take-append_seam}
 use mathlib.Core.List.{IsPrefix}
 use Rattle.flow_types.specs.declared.key.FlowKey.{FlowKey}
 use Rattle.flow_types.specs.declared.record.Flow.{Flow}
-use Rattle.flow_types.specs.Key.{number}
-use Rattle.flow_types.specs.Size.{Size, IsShape}
+use Rattle.flow_types.specs.Key.{number, IsKeyValue}
+use Rattle.flow_types.specs.Size.{Size, IsShape, owners_in}
 use Rattle.hash_family.specs.Hash.{place}
 use Rattle.block_layout.specs.Candidate.{candidate}
 use Rattle.group_search.specs.declared.published.Publication.{Publication}
 use Rattle.group_search.specs.Home.{Home, choices, group_of, home}
-use Rattle.group_search.specs.Published.{Extends}
 use Rattle.group_search.specs.Records.{AreHandled, content_of}
 use Rattle.group_history.specs.declared.change.Change.{Change}
-use Rattle.delta_codec.specs.declared.message.FibMessage.{FibMessage}
-use Rattle.delta_codec.specs.Values.{IsKeyValue}
 use Rattle.packet_reader.specs.declared.event.Event.{Event}
 use Rattle.packet_reader.specs.declared.event.Event.TheVariants.{Packet}
 use Rattle.packet_reader.specs.declared.event.Part.{Part}
 use Rattle.packet_reader.specs.declared.event.Part.TheVariants.{Table, Fib}
-use Rattle.rib_owner.specs.Rib.{map_now}
-use Rattle.replica_shard.specs.Routed.{decoded}
-use Rattle.replica_shard.specs.Shard.{ShardState, content_after, home_in_state, is_owned_block, is_owned_group, route_in_state, shard_after}
+use Rattle.group_history.specs.History.{map_now, content_after}
+use Rattle.group_search.specs.Decoding.{decoded}
+use Rattle.replica_shard.specs.Shard.{ShardState, home_in_state, is_owned_block, is_owned_group, route_in_state, shard_after}
 use Rattle.replica_shard.specs.Store.{shard_state_of}
-use Rattle.replica_shard.proofs.Below.{decoded_below}
+use Rattle.group_search.proofs.NodesBelow.{decoded_below}
 use Rattle.partial_fib.specs.Ends.{shared_after}
 use Rattle.partial_fib.specs.Fib.{FibState, fib_after, record_after, with_turn}
-use Rattle.partial_fib.proofs.Prefixes.{prefix_self, prefix_trans}
+use Rattle.flow_types.proofs.Prefixes.{prefix_self, prefix_trans}
+use Rattle.partial_fib.proofs.MapAnswers.{record_by_map}
 use Rattle.partial_fib.proofs.TurnFacts.{turns_make}
-use Rattle.replay_model.specs.declared.reply.Reply.{Reply}
-use Rattle.replay_model.specs.Packets.{answer_of, reply_sent, routed_after, version_after}
-use Rattle.replay_model.specs.State.{Journals, ClusterOpening, home_of_key, journal_of, owner_of_group}
-use Rattle.replay_model.specs.Sound.{AreSoundJournals}
-use Rattle.replay_model.proofs.Parts.{record_there}
-use Rattle.storm_model.specs.Lists.{AreTurns, IsLater, Lists, Parts, SaysByLists, WalksByLists, owners_in, reply_by_lists, reply_routed, stood_at, with_list}
+use Rattle.run_model.specs.declared.reply.Reply.{Reply}
+use Rattle.run_model.specs.Packets.{answer_of, fib_record_after, reply_sent, version_after}
+use Rattle.run_model.specs.State.{Journals, ClusterOpening, home_of_key, journal_of, owner_of_group}
+use Rattle.run_model.specs.Sound.{AreSoundJournals}
+use Rattle.run_model.proofs.Parts.{sends_there, sent_after}
+use Rattle.storm_model.specs.Lists.{AreTurns, IsLater, Lists, Parts, SaysByLists, WalksByLists, reply_by_lists, reply_routed, stood_at, with_list}
 use Rattle.storm_model.specs.Merging.{owner_of_key}
 use Rattle.storm_model.specs.Run.{IsRow}
 use Rattle.storm_model.specs.Stood.{Rises, SaysByTurns, Stood, WalksByTurns, all_seen, reply_by_turns}
@@ -44,32 +42,23 @@ use Rattle.storm_model.proofs.Walks.{walk-as}
 
 -- ---- lists that go on
 
-extends-length : (first second : List Publication) → Extends first second → length first ≤ length second
-extends-length first second more = omega (arith, ap length more.1, length-append first more.0)
-
-extends-take : (first second : List Publication) → Extends first second → first ≡ take (length first) second
-extends-take first second more = sym (ap (take (length first)) more.1 ∙ take-append_seam first more.0)
-
-prefix-length : (first second : List FibMessage) → IsPrefix first second → length first ≤ length second
+prefix-length : {A : Type 0} (first second : List A) → IsPrefix first second → length first ≤ length second
 prefix-length first second more = omega (arith, ap length more.1, length-append first more.0)
 
-prefix-take : (first second : List FibMessage) → IsPrefix first second → first ≡ take (length first) second
+prefix-take : {A : Type 0} (first second : List A) → IsPrefix first second → first ≡ take (length first) second
 prefix-take first second more = sym (ap (take (length first)) (sym more.1) ∙ take-append_seam first more.0)
 
 pub later-same : (lists : Lists) → IsLater lists lists
-later-same lists = record { tables = λ node owner. ([], sym (append-nil (lists.tables node owner))); fibs = λ node owner. prefix_self (lists.fibs node owner) }
+later-same lists = record { tables = λ node owner. prefix_self (lists.tables node owner); fibs = λ node owner. prefix_self (lists.fibs node owner) }
 
 pub later-on : (a b c : Lists) → IsLater a b → IsLater b c → IsLater a c
 later-on a b c first second = record {
-  tables = λ node owner.
-      let one = first.tables node owner in
-      let two = second.tables node owner in
-      (one.0 ++ two.0, two.1 ∙ ap (λ (ps : List Publication). ps ++ two.0) one.1 ∙ append_assoc (a.tables node owner) one.0 two.0);
+  tables = λ node owner. prefix_trans (a.tables node owner) (b.tables node owner) (c.tables node owner) (first.tables node owner) (second.tables node owner);
   fibs = λ node owner. prefix_trans (a.fibs node owner) (b.fibs node owner) (c.fibs node owner) (first.fibs node owner) (second.fibs node owner);
 }
 
 pub stood-rises : (a b : Lists) → IsLater a b → Rises (stood_at a) (stood_at b)
-stood-rises a b later Table node owner = extends-length (a.tables node owner) (b.tables node owner) (later.tables node owner)
+stood-rises a b later Table node owner = prefix-length (a.tables node owner) (b.tables node owner) (later.tables node owner)
 stood-rises a b later Fib node owner = prefix-length (a.fibs node owner) (b.fibs node owner) (later.fibs node owner)
 
 -- ---- a table and FIBs after changes of the key's owner
@@ -102,6 +91,11 @@ module _ (opened : ClusterOpening) (shape : IsShape opened.size.nodes opened.siz
   unfolding home
   owner_same = refl
 
+  -- the record that a node's FIB has of the key
+  record_there : IsKeyValue key → (node : ℕ) (changes : List Change) → record_after size node owner flows changes (number key) ≡ fib_record_after opened changes node key
+  unfolding fib_record_after map_now
+  record_there value node changes = record_by_map size node owner flows changes key value owner_same
+
   group_low : (home_of_key opened key).group < 64
   unfolding home candidate
   group_low = omega arith
@@ -130,32 +124,31 @@ module _ (opened : ClusterOpening) (shape : IsShape opened.size.nodes opened.siz
     version_there : (route_in_state shard (place size.blocks key) key).version ≡ version_after opened changes key
     version_there = ap shard.versions home_there ∙ ap (λ (s : ShardState). s.versions (home_of_key opened key)) stands
 
-    node_there : (route_in_state shard (place size.blocks key) key).node ≡ routed_after opened changes key
-    unfolding routed_after
+    node_there : (route_in_state shard (place size.blocks key) key).node ≡ sent_after opened changes key
     node_there =
         ap (λ (s : ShardState). decoded s.size key (shard.records (home_in_state shard (place size.blocks key)))) stands
         ∙ ap (decoded size key) (ap shard.records home_there ∙ content_there)
+        ∙ sends_there opened changes key
 
-    node_below : AreHandled size.nodes (map_now size flows changes (home_of_key opened key)) → (node : ℕ) → routed_after opened changes key ≡ Some node → node < size.nodes
-    unfolding routed_after
-    node_below handled node sent = decoded_below size (map_now size flows changes (home_of_key opened key)) key node handled sent
+    node_below : AreHandled size.nodes (map_now size flows changes (home_of_key opened key)) → (node : ℕ) → sent_after opened changes key ≡ Some node → node < size.nodes
+    node_below handled node sent = decoded_below size (map_now size flows changes (home_of_key opened key)) key node handled (sends_there opened changes key ∙ sent)
 
     module _ (value : IsKeyValue key) (handled : AreHandled size.nodes (map_now size flows changes (home_of_key opened key)))
         (fib_of : ℕ → FibState) (here : ℕ → List Change) (fibs : (node : ℕ) → node < size.nodes → fib_of node ≡ fib_after size node owner flows (here node)) where
-      routed-by : (to : Option ℕ) → routed_after opened changes key ≡ to
+      routed-by : (to : Option ℕ) → sent_after opened changes key ≡ to
           → reply_routed (version_after opened changes key) to fib_of (home_of_key opened key) key ≡ reply_sent opened changes here key to
       routed-by None sent = refl
       routed-by (Some node) sent =
           let fib = fibs node (node_below handled node sent) in
           ap (λ (f : FibState). answer_of node (version_after opened changes key) (f.versions (home_of_key opened key)) (f.records (number key))) fib
           ∙ ap (answer_of node (version_after opened changes key) (version_after opened (here node) key))
-          (ap (λ (o : ℕ). record_after size node o flows (here node) (number key)) (sym owner_same) ∙ record_there opened (here node) key value node)
+          (record_there value node (here node))
 
       pub reply-there : reply_routed (route_in_state shard (place size.blocks key) key).version (route_in_state shard (place size.blocks key) key).node fib_of
-          (home_in_state shard (place size.blocks key)) key ≡ reply_sent opened changes here key (routed_after opened changes key)
+          (home_in_state shard (place size.blocks key)) key ≡ reply_sent opened changes here key (sent_after opened changes key)
       reply-there =
           (λ i. reply_routed (version_there i) (node_there i) fib_of (home_there i) key)
-          ∙ routed-by (routed_after opened changes key) refl
+          ∙ routed-by (sent_after opened changes key) refl
 
 -- ---- the walk
 
@@ -165,7 +158,7 @@ module _ (opened : ClusterOpening) (shape : IsShape opened.size.nodes opened.siz
     table-at : shard_state_of (with_list (parts.tables node owner) (now.tables node owner))
         ≡ shard_after opened.size owner opened.flows (take (stood_at now Table node owner) (journal_of ends owner))
     table-at =
-        ap (λ (list : List Publication). shard_state_of (with_list (parts.tables node owner) list)) (extends-take (now.tables node owner) (last.tables node owner) (later.tables node owner))
+        ap (λ (list : List Publication). shard_state_of (with_list (parts.tables node owner) list)) (prefix-take (now.tables node owner) (last.tables node owner) (later.tables node owner))
         ∙ turns.tables node owner low has (length (now.tables node owner))
 
     fib-at : shared_after (parts.fibs node owner) (now.fibs node owner) ≡ fib_after opened.size node owner opened.flows (take (stood_at now Fib node owner) (journal_of ends owner))

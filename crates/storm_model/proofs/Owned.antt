@@ -6,12 +6,12 @@ use Rattle.std.proofs.lemmas.List.{get_or-set_other, get_or-set_same, length-set
 use Rattle.flow_types.specs.Size.{IsShape}
 use Rattle.group_search.specs.Home.{home}
 use Rattle.group_history.specs.declared.change.Change.{Change}
-use Rattle.rib_owner.specs.declared.update.Update.{Update}
-use Rattle.rib_owner.specs.declared.refused.UpdateRefused.{UpdateRefused}
-use Rattle.rib_owner.specs.Acceptance.{change_of, updated_key}
-use Rattle.replay_model.specs.declared.reply.Reply.{Reply}
-use Rattle.replay_model.specs.State.{Journals, ClusterOpening, journal_of}
-use Rattle.replay_model.specs.Updates.{after_update, journals_by, update_owner, update_reply, verdict}
+use Rattle.group_history.specs.declared.update.Update.{Update}
+use Rattle.group_history.specs.declared.refused.UpdateRefused.{UpdateRefused}
+use Rattle.group_history.specs.Acceptance.{change_of, updated_key}
+use Rattle.run_model.specs.declared.reply.Reply.{Reply}
+use Rattle.run_model.specs.State.{Journals, ClusterOpening, journal_of}
+use Rattle.run_model.specs.Updates.{after_update, journals_by, update_owner, update_reply, verdict}
 use Rattle.storm_model.specs.Merging.{Queues, owner_of_key, with_queue}
 use Rattle.storm_model.specs.Owners.{changes_by, own_after, own_reply}
 

@@ -10,18 +10,18 @@ use Rattle.packet_reader.specs.declared.event.Event.{Event}
 use Rattle.packet_reader.specs.declared.event.Event.TheVariants.{Set, Del, Packet, Carry, Sync}
 use Rattle.packet_reader.specs.declared.event.Part.{Part}
 use Rattle.packet_reader.specs.declared.event.Part.TheVariants.{Table, Fib}
-use Rattle.rib_owner.specs.declared.update.Update.{Update}
-use Rattle.rib_owner.specs.declared.update.Update.TheVariants as update
-use Rattle.replay_model.specs.declared.reply.Reply.{Reply}
-use Rattle.replay_model.specs.declared.reply.Reply.TheVariants.{Found, Unknown, Nowhere}
-use Rattle.replay_model.specs.Allowed.{AllowedFrom, Cuts, Moment, PathThen, phase_end}
-use Rattle.replay_model.specs.Paths.{Stands, cuts_of}
-use Rattle.replay_model.specs.Sound.{AreSoundJournals}
-use Rattle.replay_model.specs.State.{Journals, ClusterOpening, journal_of}
-use Rattle.replay_model.specs.Told.{EachPacket, GoesByRecord}
-use Rattle.replay_model.specs.Updates.{after_update, update_owner, update_reply}
-use Rattle.replay_model.proofs.Records.{goes-by-record}
-use Rattle.replay_model.proofs.Paths.{path-then}
+use Rattle.group_history.specs.declared.update.Update.{Update}
+use Rattle.group_history.specs.declared.update.Update.TheVariants as update
+use Rattle.run_model.specs.declared.reply.Reply.{Reply}
+use Rattle.run_model.specs.declared.reply.Reply.TheVariants.{Found, Unknown, Nowhere}
+use Rattle.run_model.specs.Allowed.{AllowedFrom, Cuts, Moment, PathThen, phase_end}
+use Rattle.run_model.specs.Paths.{Stands, cuts_of}
+use Rattle.run_model.specs.Sound.{AreSoundJournals}
+use Rattle.run_model.specs.State.{Journals, ClusterOpening, journal_of}
+use Rattle.run_model.specs.Told.{EachPacket, GoesByRecord}
+use Rattle.run_model.specs.Updates.{after_update, update_owner, update_reply}
+use Rattle.run_model.proofs.Records.{goes-by-record}
+use Rattle.run_model.proofs.Paths.{path-then}
 use Rattle.storm_model.specs.Merging.{Merged, Queues, with_queue}
 use Rattle.storm_model.specs.Owners.{own_replies}
 use Rattle.storm_model.specs.Phase.{BreaksOff, packets_after}

@@ -3,26 +3,27 @@ use Rattle.std.proofs.Common.{◌≡◌, ◌∙◌, ◌<◌, ◌≤◌, ℕ, Boo
 use Rattle.std.specs.Prelude.{◌==◌, nat_lt}
 use Rattle.std.proofs.lemmas.Bool.{eqb-true, eqb-false, lt-ltb}
 use Rattle.std.proofs.lemmas.List.{length-replicate}
+use mathlib.Core.List.{IsPrefix}
 use Rattle.flow_types.specs.Size.{IsShape}
 use Rattle.group_history.specs.declared.change.Change.{Change}
 use Rattle.packet_reader.specs.declared.event.Event.{Event}
 use Rattle.packet_reader.specs.declared.event.Event.TheVariants.{Set, Del, Packet, Carry, Sync}
 use Rattle.packet_reader.specs.declared.event.Part.{Part}
 use Rattle.packet_reader.specs.declared.event.Part.TheVariants.{Table, Fib}
-use Rattle.rib_owner.specs.declared.update.Update.{Update}
-use Rattle.rib_owner.specs.declared.update.Update.TheVariants as update
-use Rattle.replay_model.specs.declared.reply.Reply.{Reply}
-use Rattle.replay_model.specs.declared.reply.Reply.TheVariants.{Synced}
-use Rattle.replay_model.specs.Allowed.{Allowed, AllowedFrom, Cuts, Moment, beginning, phase_end}
-use Rattle.replay_model.specs.Carrying.{after_sync}
-use Rattle.replay_model.specs.Laws.{CanBeOpened, no_journals}
-use Rattle.replay_model.specs.Paths.{Stands, cuts_of}
-use Rattle.replay_model.specs.Sound.{AreSoundJournals}
-use Rattle.replay_model.specs.State.{Journals, ClusterOpening, Grows, Taken, journal_of}
-use Rattle.replay_model.specs.Told.{EachPacket, GoesByRecord}
-use Rattle.replay_model.specs.Updates.{after_update, update_owner}
-use Rattle.replay_model.proofs.Accepting.{phase-grows, sound-end, sound-first}
-use Rattle.replay_model.proofs.Cuts.{grown-length}
+use Rattle.group_history.specs.declared.update.Update.{Update}
+use Rattle.group_history.specs.declared.update.Update.TheVariants as update
+use Rattle.run_model.specs.declared.reply.Reply.{Reply}
+use Rattle.run_model.specs.declared.reply.Reply.TheVariants.{Synced}
+use Rattle.run_model.specs.Allowed.{Allowed, AllowedFrom, Cuts, Moment, beginning, phase_end}
+use Rattle.run_model.specs.Carrying.{after_sync}
+use Rattle.run_model.specs.Laws.{CanBeOpened, no_journals}
+use Rattle.run_model.specs.Paths.{Stands, cuts_of}
+use Rattle.run_model.specs.Sound.{AreSoundJournals}
+use Rattle.run_model.specs.State.{Journals, ClusterOpening, Taken, journal_of}
+use Rattle.run_model.specs.Told.{EachPacket, GoesByRecord}
+use Rattle.run_model.specs.Updates.{after_update, update_owner}
+use Rattle.run_model.proofs.Accepting.{phase-grows, sound-end, sound-first}
+use Rattle.run_model.proofs.Cuts.{grown-length}
 use Rattle.storm_model.specs.Owners.{own_after, own_changes}
 use Rattle.storm_model.specs.Phase.{IsOnePhase, packets_after}
 use Rattle.storm_model.specs.Run.{IsPhaseSaid}
@@ -34,7 +35,7 @@ seen-here : (opened : ClusterOpening) (journals : Journals) (part : Part) (node 
     → all_seen opened journals part node owner ≡ length (journal_of journals owner)
 seen-here opened journals part node owner low = rw (lt-ltb node opened.size.nodes low) refl
 
-seen-more : (opened : ClusterOpening) (journals ends : Journals) → ((owner : ℕ) → Grows (journal_of journals owner) (journal_of ends owner))
+seen-more : (opened : ClusterOpening) (journals ends : Journals) → ((owner : ℕ) → IsPrefix (journal_of journals owner) (journal_of ends owner))
     → Rises (all_seen opened journals) (all_seen opened ends)
 seen-more opened journals ends grows part node owner = by (nat_lt node opened.size.nodes)
   where
@@ -92,7 +93,7 @@ module _ (opened : ClusterOpening) where
     abbrev pub at_start : Journals → (packets : ℕ) → List Taken → (tables fibs : Cuts) → Moment
     at_start journals packets nodes tables fibs = record { packets = packets; start = journals; now = journals; nodes = nodes; tables = tables; fibs = fibs }
 
-    -- all events so far are answered as the model allows: the run stands between two phases, with these journals and after so many
+    -- all events so far are answered as the model allows: the run stands between two phases, with these journals and after this number of
     -- packets, and whatever is allowed for the rest is allowed after them
     pub record IsReached (done : List Event) (replies : List Reply) (journals : Journals) (packets : ℕ) : Type 0 where
       pub nodes : List Taken
@@ -131,7 +132,7 @@ module _ (opened : ClusterOpening) where
 
       stands : Stands opened ends start stood
       stands = record {
-        grown = λ owner. subst (λ (js : Journals). Grows (journal_of journals owner) (journal_of js owner)) said.ends_so (phase-grows opened script journals owner);
+        grown = λ owner. subst (λ (js : Journals). IsPrefix (journal_of journals owner) (journal_of js owner)) said.ends_so (phase-grows opened script journals owner);
         late = λ lane part node owner low. omega (arith, seen-here opened journals part node owner low);
         cuts = cuts;
       }

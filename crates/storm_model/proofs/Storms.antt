@@ -2,12 +2,12 @@
 use Rattle.std.proofs.Common.{◌≡◌, ◌∙◌, ◌<◌, ℕ, zero, suc, List, [], ◌∷◌, ◌++◌, sym, ap, subst, append_assoc}
 use Rattle.packet_reader.specs.declared.event.Event.{Event}
 use Rattle.packet_reader.specs.declared.event.Event.TheVariants.{Sync}
-use Rattle.replay_model.specs.declared.reply.Reply.{Reply}
-use Rattle.replay_model.specs.declared.reply.Reply.TheVariants.{Synced}
-use Rattle.replay_model.specs.Allowed.{Allowed}
-use Rattle.replay_model.specs.Laws.{CanBeOpened, no_journals}
-use Rattle.replay_model.specs.State.{ClusterOpening, Journals}
-use Rattle.replay_model.specs.Told.{EachPacket, GoesByRecord}
+use Rattle.run_model.specs.declared.reply.Reply.{Reply}
+use Rattle.run_model.specs.declared.reply.Reply.TheVariants.{Synced}
+use Rattle.run_model.specs.Allowed.{Allowed}
+use Rattle.run_model.specs.Laws.{CanBeOpened, no_journals}
+use Rattle.run_model.specs.State.{ClusterOpening, Journals}
+use Rattle.run_model.specs.Told.{EachPacket, GoesByRecord}
 use Rattle.storm_model.specs.Laws.{IsStormSaid, StormsAreAllowed, StormsGoByRecords}
 use Rattle.storm_model.specs.Phase.{packets_after}
 use Rattle.storm_model.proofs.Phases.{IsReached, allowed-last, reached-first, reached-sync}

@@ -1,16 +1,16 @@
 -- What stands at a node's table and FIB of an owner: what the owner's changes say, after each of them.
 use Rattle.std.specs.Prelude.{◌≡◌, ◌⊎◌, ℕ, ◌<◌, ◌≤◌, List, [], length, take}
 use Rattle.flow_types.specs.declared.record.Flow.{Flow}
-use Rattle.flow_types.specs.Size.{Size}
+use Rattle.flow_types.specs.Size.{Size, owners_in}
 use Rattle.group_search.specs.declared.published.Publication.{Publication}
 use Rattle.group_history.specs.declared.change.Change.{Change}
 use Rattle.delta_codec.specs.declared.message.FibMessage.{FibMessage}
 use Rattle.replica_shard.specs.Shard.{shard_after}
 use Rattle.replica_shard.specs.Store.{ShardStore, shard_state_of}
-use Rattle.partial_fib.specs.Message.{messages_after}
+use Rattle.delta_codec.specs.Messages.{messages_after}
 use Rattle.partial_fib.specs.Fib.{fib_after}
 use Rattle.partial_fib.specs.Store.{state_of}
-use Rattle.replay_model.specs.State.{ClusterOpening, Journals, journal_of, owners_in}
+use Rattle.run_model.specs.State.{ClusterOpening, Journals, journal_of}
 use Rattle.storm_model.specs.Lists.{Lists, Parts, with_list}
 
 -- the records are those of the changes: after any number of the first of them the table is that after as many changes

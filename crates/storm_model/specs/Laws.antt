@@ -4,16 +4,16 @@ use Rattle.flow_types.specs.Size.{IsShape}
 use Rattle.group_history.specs.declared.change.Change.{Change}
 use Rattle.packet_reader.specs.declared.event.Event.{Event}
 use Rattle.packet_reader.specs.declared.event.Event.TheVariants.{Sync}
-use Rattle.rib_owner.specs.declared.update.Update.{Update}
-use Rattle.rib_owner.specs.Acceptance.{updated_key}
-use Rattle.replay_model.specs.declared.reply.Reply.{Reply}
-use Rattle.replay_model.specs.declared.reply.Reply.TheVariants.{Synced}
-use Rattle.replay_model.specs.Allowed.{Allowed, phase_end}
-use Rattle.replay_model.specs.Laws.{CanBeOpened, no_journals}
-use Rattle.replay_model.specs.Sound.{AreSoundJournals}
-use Rattle.replay_model.specs.State.{ClusterOpening, Journals, journal_of}
-use Rattle.replay_model.specs.Told.{EachPacket, GoesByRecord}
-use Rattle.replay_model.specs.Updates.{after_update, update_reply}
+use Rattle.group_history.specs.declared.update.Update.{Update}
+use Rattle.group_history.specs.Acceptance.{updated_key}
+use Rattle.run_model.specs.declared.reply.Reply.{Reply}
+use Rattle.run_model.specs.declared.reply.Reply.TheVariants.{Synced}
+use Rattle.run_model.specs.Allowed.{Allowed, phase_end}
+use Rattle.run_model.specs.Laws.{CanBeOpened, no_journals}
+use Rattle.run_model.specs.Sound.{AreSoundJournals}
+use Rattle.run_model.specs.State.{ClusterOpening, Journals, journal_of}
+use Rattle.run_model.specs.Told.{EachPacket, GoesByRecord}
+use Rattle.run_model.specs.Updates.{after_update, update_reply}
 use Rattle.storm_model.specs.Merging.{CanMerge, Merged, Queues, owner_of_key}
 use Rattle.storm_model.specs.Owners.{HasNoUpdate, own_after, own_changes, own_replies, own_reply}
 use Rattle.storm_model.specs.Phase.{IsOnePhase, packets_after}
@@ -72,7 +72,7 @@ PhasesAreSaid = (opened : ClusterOpening) (lanes : ℕ) (journals ends : Journal
 
 -- ---- a storm
 
--- what owners and lanes have said phase after phase, where so many syncs are left: the first phase began with these journals,
+-- what owners and lanes have said phase after phase, where this many syncs are left: the first phase began with these journals,
 -- and its first packet has this number
 abbrev pub IsStormSaid : ClusterOpening → (lanes syncs : ℕ) → Journals → (packets : ℕ) → List Event → List Reply → Type 0
 IsStormSaid opened lanes zero journals packets script replies = (ends : Journals) × IsPhaseSaid opened lanes journals ends packets script replies

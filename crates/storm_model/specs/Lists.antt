@@ -3,11 +3,10 @@ use Rattle.std.specs.Prelude.{◌≡◌, ℕ, ◌<◌, List, [], length, take, O
 use mathlib.Core.List.{IsPrefix}
 use Rattle.flow_types.specs.declared.key.FlowKey.{FlowKey}
 use Rattle.flow_types.specs.Key.{number}
-use Rattle.flow_types.specs.Size.{Size}
+use Rattle.flow_types.specs.Size.{Size, owners_in}
 use Rattle.hash_family.specs.Hash.{place}
 use Rattle.group_search.specs.declared.published.Publication.{Publication}
 use Rattle.group_search.specs.Home.{Home}
-use Rattle.group_search.specs.Published.{Extends}
 use Rattle.delta_codec.specs.declared.message.FibMessage.{FibMessage}
 use Rattle.packet_reader.specs.declared.event.Event.{Event}
 use Rattle.packet_reader.specs.declared.event.Part.TheVariants.{Table, Fib}
@@ -15,13 +14,13 @@ use Rattle.replica_shard.specs.Shard.{home_in_state, route_in_state, shard_after
 use Rattle.replica_shard.specs.Store.{ShardStore, shard_state_of}
 use Rattle.partial_fib.specs.Ends.{shared_after}
 use Rattle.partial_fib.specs.Fib.{FibState, fib_after}
-use Rattle.partial_fib.specs.Message.{IsJournalOf, messages_after}
+use Rattle.delta_codec.specs.Messages.{messages_after}
+use Rattle.delta_codec.specs.Journals.{IsJournalOf}
 use Rattle.partial_fib.specs.Store.{FibStore, state_of}
-use Rattle.replay_model.specs.declared.reply.Reply.{Reply}
-use Rattle.replay_model.specs.declared.reply.Reply.TheVariants.{Nowhere}
-use Rattle.replay_model.specs.Packets.{answer_of}
-use Rattle.replay_model.specs.State.{Journals, ClusterOpening, journal_of}
-pub use Rattle.replay_model.specs.State.{owners_in}
+use Rattle.run_model.specs.declared.reply.Reply.{Reply}
+use Rattle.run_model.specs.declared.reply.Reply.TheVariants.{Nowhere}
+use Rattle.run_model.specs.Packets.{answer_of}
+use Rattle.run_model.specs.State.{Journals, ClusterOpening, journal_of}
 use Rattle.storm_model.specs.Merging.{owner_of_key}
 use Rattle.storm_model.specs.Stood.{Stood, all_seen}
 use Rattle.storm_model.specs.Walk.{Walk}
@@ -33,7 +32,7 @@ pub record Lists : Type 0 where
 
 -- each of the readers has seen the same, and perhaps more
 pub record IsLater (before after : Lists) : Type 0 where
-  pub tables : (node owner : ℕ) → Extends (before.tables node owner) (after.tables node owner)
+  pub tables : (node owner : ℕ) → IsPrefix (before.tables node owner) (after.tables node owner)
   pub fibs : (node owner : ℕ) → IsPrefix (before.fibs node owner) (after.fibs node owner)
 
 -- each node's table and FIB of an owner before the owner's first turn

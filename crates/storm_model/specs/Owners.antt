@@ -4,13 +4,13 @@ use Rattle.flow_types.specs.Size.{Size}
 use Rattle.group_history.specs.declared.change.Change.{Change}
 use Rattle.packet_reader.specs.declared.event.Event.{Event}
 use Rattle.packet_reader.specs.declared.event.Event.TheVariants.{Set, Del}
-use Rattle.rib_owner.specs.declared.update.Update.{Update}
-use Rattle.rib_owner.specs.declared.update.Update.TheVariants as update
-use Rattle.rib_owner.specs.declared.refused.UpdateRefused.{UpdateRefused}
-use Rattle.rib_owner.specs.Acceptance.{change_of, grounds, refusal}
-use Rattle.replay_model.specs.declared.reply.Reply.{Reply}
-use Rattle.replay_model.specs.State.{ClusterOpening}
-use Rattle.replay_model.specs.Updates.{reply_by, update_owner}
+use Rattle.group_history.specs.declared.update.Update.{Update}
+use Rattle.group_history.specs.declared.update.Update.TheVariants as update
+use Rattle.group_history.specs.declared.refused.UpdateRefused.{UpdateRefused}
+use Rattle.group_history.specs.Acceptance.{change_of, grounds, refusal}
+use Rattle.run_model.specs.declared.reply.Reply.{Reply}
+use Rattle.run_model.specs.State.{ClusterOpening}
+use Rattle.run_model.specs.Updates.{reply_by, update_owner}
 use Rattle.storm_model.specs.Merging.{owner_of_key}
 
 -- why the owner of these changes refuses the update; `None` where it accepts it

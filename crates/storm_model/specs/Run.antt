@@ -1,12 +1,13 @@
 -- How far a storm has come, phase by phase, and what its workers give back of a phase.
 use Rattle.std.specs.Prelude.{◌≡◌, ℕ, ◌<◌, ◌≤◌, List, [], length, All}
 use Rattle.packet_reader.specs.declared.event.Event.{Event}
-use Rattle.partial_fib.specs.Message.{IsJournalOf}
-use Rattle.replay_model.specs.declared.reply.Reply.{Reply}
-use Rattle.replay_model.specs.Allowed.{phase_end}
-pub use Rattle.replay_model.specs.Laws.{IsRow}
-use Rattle.replay_model.specs.Sound.{AreSoundJournals}
-use Rattle.replay_model.specs.State.{Journals, ClusterOpening, journal_of, owners_in}
+use Rattle.delta_codec.specs.Journals.{IsJournalOf}
+use Rattle.run_model.specs.declared.reply.Reply.{Reply}
+use Rattle.run_model.specs.Allowed.{phase_end}
+pub use Rattle.run_model.specs.Laws.{IsRow}
+use Rattle.run_model.specs.Sound.{AreSoundJournals}
+use Rattle.flow_types.specs.Size.{owners_in}
+use Rattle.run_model.specs.State.{Journals, ClusterOpening, journal_of}
 use Rattle.storm_model.specs.Lists.{AreTurns, IsLater, Lists, Parts, WalksByLists}
 use Rattle.storm_model.specs.Merging.{Merged, Queues}
 use Rattle.storm_model.specs.Owners.{own_changes, own_replies}

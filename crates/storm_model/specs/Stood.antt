@@ -1,11 +1,11 @@
--- How many turns of each owner a lane's readers have seen, and how packets are answered by so many.
+-- How many turns of each owner a lane's readers have seen, and how packets are answered by these.
 use Rattle.std.specs.Prelude.{◌≡◌, ℕ, ◌≤◌, nat_lt, if◌then◌else◌, List, length}
 use Rattle.flow_types.specs.declared.key.FlowKey.{FlowKey}
 use Rattle.packet_reader.specs.declared.event.Event.{Event}
 use Rattle.packet_reader.specs.declared.event.Part.{Part}
-use Rattle.replay_model.specs.declared.reply.Reply.{Reply}
-pub use Rattle.replay_model.specs.Packets.{Stood, reply_by_turns}
-use Rattle.replay_model.specs.State.{Journals, ClusterOpening, journal_of}
+use Rattle.run_model.specs.declared.reply.Reply.{Reply}
+pub use Rattle.run_model.specs.Packets.{Stood, reply_by_turns}
+use Rattle.run_model.specs.State.{Journals, ClusterOpening, journal_of}
 use Rattle.storm_model.specs.Walk.{Walk}
 
 -- the lane's readers have seen as many turns, or more

@@ -2,8 +2,8 @@
 use Rattle.std.specs.Prelude.{◌≡◌, ℕ, ◌++◌, List}
 use Rattle.packet_reader.specs.declared.event.Event.{Event}
 use Rattle.packet_reader.specs.declared.event.Event.TheVariants.{Carry}
-use Rattle.replay_model.specs.declared.reply.Reply.{Reply}
-use Rattle.replay_model.specs.State.{Journals, ClusterOpening}
+use Rattle.run_model.specs.declared.reply.Reply.{Reply}
+use Rattle.run_model.specs.State.{Journals, ClusterOpening}
 use Rattle.storm_model.specs.Run.{IsPhaseSaid}
 
 -- the cluster's opening, how many lanes there are, and what the owners have accepted

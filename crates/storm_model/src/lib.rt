@@ -8,7 +8,7 @@
 //!
 //! Proved (`specs/Laws.antt`): owners answer by themselves what the model answers; what lanes answered by lists is what the model
 //! answers by turns; once all workers have done their part there is a reply to each event, and the merged replies are the phase's;
-//! and what phase after phase has said is allowed by the model, so that `replay_model`'s laws hold of it: where ingress and node
+//! and what phase after phase has said is allowed by the model, so that `run_model`'s laws hold of it: where ingress and node
 //! stand at one version the answer is the map's, and no lane goes back. Each packet goes where the canonical record of its
 //! key's group sends it. That workers do their part is proved in the crates of their code, whose edits are refused where they don't.
 #![tactic(auto)]

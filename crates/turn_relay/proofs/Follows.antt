@@ -7,6 +7,7 @@ use Rattle.delta_codec.specs.declared.message.FibMessage.{FibMessage}
 use Rattle.delta_codec.specs.declared.message.Message.{Message}
 use Rattle.delta_codec.specs.declared.message.Message.TheVariants.{Table, Fib}
 use Rattle.delta_codec.specs.declared.message.TableMessage.{TableMessage}
+use Rattle.delta_codec.specs.Turns.{IsEarly, IsForeign, IsRepeat}
 use Rattle.replica_shard.specs.declared.refused.ShardRefused.{ShardRefused}
 use Rattle.replica_shard.specs.declared.refused.ShardRefused.TheVariants.{Foreign, Repeat, Early, RowsFull}
 use Rattle.replica_shard.specs.declared.shard.Shard.{Shard}
@@ -43,9 +44,9 @@ on_fib table fib now before message follows is = (
 -- ---- a refusal
 
 module _ (table : Seated) (before : List Message) (message : TableMessage) (result : Result ⊤ ShardRefused)
-    (foreign : (owner : ℕ) → IsErrOf result (Foreign owner) ↔ ((message.owner ≢ table.shard.owner) × (owner ≡ message.owner)))
-    (repeat : (have : ℕ) → IsErrOf result (Repeat have) ↔ ((message.owner ≡ table.shard.owner) × (message.turn ≤ length table.list) × (have ≡ length table.list)))
-    (early : (have : ℕ) → IsErrOf result (Early have) ↔ ((message.owner ≡ table.shard.owner) × (length table.list + 1 < message.turn) × (have ≡ length table.list)))
+    (foreign : (owner : ℕ) → IsErrOf result (Foreign owner) ↔ IsForeign table.shard.owner message.owner owner)
+    (repeat : (have : ℕ) → IsErrOf result (Repeat have) ↔ IsRepeat table.shard.owner (length table.list) message.owner message.turn have)
+    (early : (have : ℕ) → IsErrOf result (Early have) ↔ IsEarly table.shard.owner (length table.list) message.owner message.turn have)
     (rows_full : (needed free : ℕ) → IsErrOf result (RowsFull needed free) ↔
     ((message.owner ≡ table.shard.owner) × (message.turn ≡ length table.list + 1) × (needed ≡ rows_in message.content)
     × (free ≡ free_rows (shard_state_of (table_taken table)) message.block message.group) × (free < needed)))
@@ -83,19 +84,17 @@ module _ (table : Seated) (before : List Message) (message : TableMessage) (resu
       by (Err cause) answer_is listed is = subst (Follow now fib (before ++ Table message ∷ [])) (sym is) (stuck_at_table cause answer_is now fib same)
 
 module _ (fib : WriterState) (before : List Message) (message : FibMessage) (result : Result ⊤ FibRefused)
-    (foreign : (owner : ℕ) → IsErrOf result (fib_refused.Foreign owner) ↔ ((fib.spent ≡ false) × (message.owner ≢ fib.opening.owner) × (owner ≡ message.owner)))
-    (repeat : (have : ℕ) → IsErrOf result (fib_refused.Repeat have) ↔
-    ((fib.spent ≡ false) × (message.owner ≡ fib.opening.owner) × (message.turn ≤ length fib.turns) × (have ≡ length fib.turns)))
-    (early : (have : ℕ) → IsErrOf result (fib_refused.Early have) ↔
-    ((fib.spent ≡ false) × (message.owner ≡ fib.opening.owner) × (length fib.turns + 1 < message.turn) × (have ≡ length fib.turns)))
+    (foreign : (owner : ℕ) → IsErrOf result (fib_refused.Foreign owner) ↔ ((fib.spent ≡ false) × IsForeign fib.opening.owner message.owner owner))
+    (repeat : (have : ℕ) → IsErrOf result (fib_refused.Repeat have) ↔ ((fib.spent ≡ false) × IsRepeat fib.opening.owner (length fib.turns) message.owner message.turn have))
+    (early : (have : ℕ) → IsErrOf result (fib_refused.Early have) ↔ ((fib.spent ≡ false) × IsEarly fib.opening.owner (length fib.turns) message.owner message.turn have))
     (turned : fib.turns ≡ fibs_in before) where
   many_turns : length fib.turns ≡ length (fibs_in before)
   many_turns = ap length turned
 
   why_fib : (shard : Shard) (cause : FibRefused) → result ≡ Err cause → cause ≢ fib_refused.OutOfMemory → IsOutOfTurn shard fib.opening.owner before (Fib message)
-  why_fib shard (fib_refused.Foreign owner) is other own next = ((foreign owner).0 is).1 own
-  why_fib shard (fib_refused.Repeat have) is other own next = absurd (omega (arith, ((repeat have).0 is).2, many_turns, next))
-  why_fib shard (fib_refused.Early have) is other own next = absurd (omega (arith, ((early have).0 is).2, many_turns, next))
+  why_fib shard (fib_refused.Foreign owner) is other own next = ((foreign owner).0 is).1.0 own
+  why_fib shard (fib_refused.Repeat have) is other own next = absurd (omega (arith, ((repeat have).0 is).1.1, many_turns, next))
+  why_fib shard (fib_refused.Early have) is other own next = absurd (omega (arith, ((early have).0 is).1.1, many_turns, next))
   why_fib shard fib_refused.OutOfMemory is other own next = absurd (other refl)
 
   stuck_at_fib : (cause : FibRefused) → result ≡ Err cause → cause ≢ fib_refused.OutOfMemory → (table : Seated) (now : WriterState) → now.opening ≡ fib.opening

@@ -5,7 +5,6 @@ pub mod Sends
 pub mod OwnerSaid
 pub mod OwnerRuns
 pub mod Places
-pub mod Room
 pub mod Settled
 pub mod Resting
 pub mod Linked

@@ -11,7 +11,7 @@ use Rattle.delta_codec.specs.declared.message.Message.{Message}
 use Rattle.replica_shard.specs.Seats.{shard_at}
 use Rattle.replica_shard.specs.Shard.{shard_after}
 use Rattle.replica_shard.specs.Store.{shard_state_of}
-use Rattle.partial_fib.specs.Message.{messages_after}
+use Rattle.delta_codec.specs.Messages.{messages_after}
 use Rattle.node_link.specs.Ends.{End}
 use Rattle.storm_model.specs.Follows.{FibFollows, TableFollows}
 use Rattle.turn_relay.specs.declared.state.State.{State}

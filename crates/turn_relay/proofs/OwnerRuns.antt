@@ -4,10 +4,10 @@ use Rattle.std.proofs.Math.Seq.{take-append_seam}
 use Rattle.flow_types.specs.declared.record.Flow.{Flow}
 use Rattle.flow_types.specs.Size.{Size}
 use Rattle.packet_reader.specs.declared.event.Event.{Event}
-use Rattle.rib_owner.specs.declared.update.Update.{Update}
-use Rattle.turn_sender.specs.Sender.{IsSenderOf, SenderState, changes_in}
+use Rattle.group_history.specs.declared.update.Update.{Update}
+use Rattle.turn_log.specs.Sender.{IsSenderOf, SenderState, changes_in}
 use Rattle.node_link.specs.Ends.{End}
-use Rattle.replay_model.specs.declared.reply.Reply.{Reply}
+use Rattle.run_model.specs.declared.reply.Reply.{Reply}
 use Rattle.storm_model.specs.Owners.{own_after, own_reply}
 use Rattle.turn_relay.specs.OwnWork.{AnswersOne, HasOwned, IsAsked, SaysOwn, opening_of}
 use Rattle.turn_relay.specs.OwnerState.{HasSentAll, IsOwner, IsSameLink, IsSameOwner, OwnerState, Stands, journal_in}

@@ -8,21 +8,21 @@ use Rattle.flow_types.specs.Size.{Size}
 use Rattle.group_history.specs.declared.change.Change.{Change}
 use Rattle.packet_reader.specs.declared.event.Event.{Event}
 use Rattle.packet_reader.specs.declared.event.Event.TheVariants.{Set, Del, Packet, Carry, Sync}
-use Rattle.rib_owner.specs.declared.update.Update.{Update}
-use Rattle.rib_owner.specs.declared.update.Update.TheVariants as update
-use Rattle.rib_owner.specs.declared.refused.UpdateRefused.{UpdateRefused}
-use Rattle.rib_owner.specs.declared.refused.UpdateRefused.TheVariants.{Spent, Absent, BlockFull, RowsFull, OutOfMemory}
+use Rattle.group_history.specs.declared.update.Update.{Update}
+use Rattle.group_history.specs.declared.update.Update.TheVariants as update
+use Rattle.group_history.specs.declared.refused.UpdateRefused.{UpdateRefused}
+use Rattle.group_history.specs.declared.refused.UpdateRefused.TheVariants.{Spent, Absent, BlockFull, RowsFull, OutOfMemory}
 use Rattle.rib_owner.specs.Judging.{IsFor}
-use Rattle.turn_sender.specs.Sender.{AnswersSender}
-use Rattle.replay_model.specs.declared.reply.Reply.TheVariants.{Accepted, Refused}
-use Rattle.rib_owner.specs.Acceptance.{change_of, updated_key}
-use Rattle.replay_model.specs.declared.reply.Reply.{Reply}
-use Rattle.replay_model.specs.State.{ClusterOpening}
-use Rattle.replay_model.specs.Updates.{reply_by, update_owner}
+use Rattle.turn_log.specs.Sender.{AnswersSender}
+use Rattle.run_model.specs.declared.reply.Reply.TheVariants.{Accepted, Refused}
+use Rattle.group_history.specs.Acceptance.{change_of, updated_key}
+use Rattle.run_model.specs.declared.reply.Reply.{Reply}
+use Rattle.run_model.specs.State.{ClusterOpening}
+use Rattle.run_model.specs.Updates.{reply_by, update_owner}
 use Rattle.group_search.specs.Home.{home}
-use Rattle.storm_model.specs.Merging.{owner_of_key}
+use Rattle.storm_model.specs.Merging.{behind_with, owner_of_key}
 use Rattle.storm_model.specs.Owners.{changes_by, own_after, own_changes, own_replies, own_reply, own_verdict}
-use Rattle.turn_relay.specs.OwnWork.{IsAsked, SaysOwn, behind_with, opening_of}
+use Rattle.turn_relay.specs.OwnWork.{IsAsked, SaysOwn, opening_of}
 
 -- how far the owner has come
 pub record OwnsSoFar (opened : ClusterOpening) (owner : ℕ) (events : List Event) (before now : List Change) (rest : List Event) (replies replies' : List Reply) : Type 0 where

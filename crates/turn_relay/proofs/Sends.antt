@@ -10,12 +10,10 @@ use Rattle.group_history.specs.declared.change.Change.{Change}
 use Rattle.delta_codec.specs.declared.message.FibMessage.{FibMessage}
 use Rattle.delta_codec.specs.declared.message.Message.TheVariants.{Table}
 use Rattle.delta_codec.specs.declared.message.TableMessage.{TableMessage}
-use Rattle.replica_shard.specs.Message.{IsTableMessage, IsTableMessageOf}
-use Rattle.partial_fib.specs.Message.{message_after}
-use Rattle.rib_owner.specs.declared.update.Update.{Update}
-use Rattle.rib_owner.specs.Acceptance.{change_of}
-use Rattle.turn_sender.specs.Sender.{AnswersSender, IsSenderOf, SenderState, changes_in}
-use Rattle.turn_sender.specs.Sent.{IsFibMessageOf}
+use Rattle.delta_codec.specs.Messages.{IsTableMessage, IsTableMessageOf, message_after, IsFibMessageOf}
+use Rattle.group_history.specs.declared.update.Update.{Update}
+use Rattle.group_history.specs.Acceptance.{change_of}
+use Rattle.turn_log.specs.Sender.{AnswersSender, IsSenderOf, SenderState, changes_in}
 use Rattle.node_link.specs.Ends.{End}
 use Rattle.turn_relay.specs.Each.{AllFrom}
 use Rattle.turn_relay.specs.Sent.{AreAllSent, AreSent, TellsEach, TellsTurn, fibs_in, tables_in}

@@ -7,8 +7,10 @@ use Rattle.std.proofs.lemmas.Option.{slice_get_within}
 use Rattle.flow_types.specs.declared.record.Flow.{Flow}
 use Rattle.flow_types.specs.Size.{Size}
 use Rattle.group_search.specs.declared.published.Publication.{Publication}
+use Rattle.group_search.specs.Build.{rows_left}
 use Rattle.group_search.specs.Canon.{rows_in}
 use Rattle.group_history.specs.declared.change.Change.{Change}
+use Rattle.group_history.specs.History.{map_now}
 use Rattle.delta_codec.specs.declared.message.FibMessage.{FibMessage}
 use Rattle.delta_codec.specs.declared.message.Message.{Message}
 use Rattle.delta_codec.specs.declared.message.Message.TheVariants.{Table, Fib}
@@ -18,12 +20,16 @@ use Rattle.replica_shard.specs.Owners.{publication_of}
 use Rattle.replica_shard.specs.Seats.{shard_at}
 use Rattle.replica_shard.specs.Shard.{ShardState, free_rows, shard_after, with_content}
 use Rattle.replica_shard.specs.Store.{shard_state_of}
-use Rattle.replica_shard.specs.Turns.{AreTableMessagesOf, IsOfOwner}
+use Rattle.delta_codec.specs.Journals.{IsOfOwner}
+use Rattle.replica_shard.specs.Turns.{AreTableMessagesOf}
+use Rattle.replica_shard.proofs.Opened.{of_owner_at_home}
+use Rattle.replica_shard.proofs.Room.{has_room}
 use Rattle.replica_shard.proofs.Taken.{with_one_more}
 use Rattle.replica_shard.proofs.TurnFacts.{turns_make}
 use Rattle.partial_fib.specs.Fib.{FibState}
-use Rattle.partial_fib.specs.Message.{message_after, messages_after}
-use Rattle.turn_sender.specs.Sender.{IsSenderOf, SenderState, changes_in}
+use Rattle.delta_codec.specs.Messages.{IsTableMessageOf, message_after, messages_after}
+use Rattle.turn_log.specs.Room.{HaveRows}
+use Rattle.turn_log.specs.Sender.{IsSenderOf, SenderState, changes_in}
 use Rattle.storm_model.specs.Follows.{FibFollows, TableFollows}
 use Rattle.turn_relay.specs.declared.state.State.{State}
 use Rattle.turn_relay.specs.declared.state.State.TheVariants.{Clear, Stuck}
@@ -33,7 +39,6 @@ use Rattle.turn_relay.specs.PartState.{PartState, taken_by}
 use Rattle.turn_relay.specs.Sent.{AreFibMessagesOf, AreSent, fibs_in, tables_in}
 use Rattle.turn_relay.proofs.Messages.{fib_at, list_length, table_at, tables_before}
 use Rattle.turn_relay.proofs.Places.{map_first, take_as_many, take_there}
-use Rattle.turn_relay.proofs.Room.{has_room, is_of_owner}
 
 -- ---- a table
 
@@ -46,12 +51,22 @@ taken_all shard list (message ∷ messages) =
     ∙ taken_all shard (list ++ publication_of message ∷ []) messages
     ∙ ap (λ (state : ShardState). fold with_content state messages) (with_one_more (shard_at shard list) message)
 
+-- the table after the turns before this one has room for the message's record
+room_there : (size : Size) (owner : ℕ) (flows : List Flow) (changes : List Change) (turn : ℕ) (message : TableMessage) (of : IsTableMessageOf size owner flows changes turn message)
+    → HaveRows size flows changes → rows_in message.content ≤ free_rows (shard_after size owner flows (take of.before changes)) message.block message.group
+unfolding rows_left map_now
+room_there size owner flows changes turn message of rows =
+    has_room size owner flows (take of.before changes) of.change message of.says (rows of.before of.change of.there)
+
 module _ (size : Size) (owner : ℕ) (flows : List Flow) (sender : SenderState) (is : IsSenderOf size owner flows sender) where
   abbrev changes : List Change
   changes = changes_in sender
 
   all_of_owner : All (IsOfOwner size owner) changes
-  all_of_owner i default low = is_of_owner size is.shape owner flows _ (is.own i default low)
+  all_of_owner i default low =
+      let own = is.own i default low in
+      let blocks = is.shape.enough_blocks in
+      of_owner_at_home size owner flows _ (omega (arith, blocks)) own.at_home own.owned
 
   module _ (shard : Shard) (opened : shard_state_of (shard_at shard []) ≡ shard_after size owner flows []) where
     table_after : (messages : List TableMessage) → AreTableMessagesOf size owner flows changes messages
@@ -124,7 +139,7 @@ module _ (size : Size) (node owner : ℕ) (flows : List Flow) (sender : SenderSt
       (λ i m m_there. sent.tables i m (subst (λ (all : List Message). slice_get (tables_in all) i ≡ Some m) (sym whole) (tables_before before (Table message ∷ rest) i m m_there)))
       ∙ ap (λ (n : ℕ). shard_after size owner flows (take n (changes_in sender))) (sym place) in
       let room : rows_in message.content ≤ free_rows (shard_after size owner flows (take told.before (changes_in sender))) message.block message.group =
-      has_room size owner flows (changes_in sender) (length (tables_in before) + 1) message told is.rows in
+      room_there size owner flows (changes_in sender) (length (tables_in before) + 1) message told is.rows in
       out (told.says.of_owner ∙ sym shard_owner) (omega (arith, told.says.next, place, length-take-le told.before (changes_in sender) (omega (arith, low))))
       (subst (λ (s : ShardState). rows_in message.content ≤ free_rows s message.block message.group) (sym state) room)
   in_turn before rest (Fib message) whole out =

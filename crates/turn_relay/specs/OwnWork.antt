@@ -1,16 +1,16 @@
 -- An owner's work on the events of a phase.
-use Rattle.std.specs.Prelude.{◌≡◌, ◌≢◌, ℕ, ◌<◌, false, List, [], ◌∷◌, ◌++◌, Option, None, Some}
+use Rattle.std.specs.Prelude.{◌≡◌, ◌≢◌, ℕ, ◌<◌, false, List, ◌∷◌, Option, None, Some}
 use Rattle.flow_types.specs.declared.record.Flow.{Flow}
 use Rattle.flow_types.specs.Size.{Size}
 use Rattle.group_history.specs.declared.change.Change.{Change}
 use Rattle.packet_reader.specs.declared.event.Event.{Event}
 use Rattle.packet_reader.specs.declared.event.Event.TheVariants.{Del, Set}
-use Rattle.rib_owner.specs.declared.update.Update.{Update}
-use Rattle.rib_owner.specs.declared.update.Update.TheVariants as update
-use Rattle.rib_owner.specs.Acceptance.{updated_key}
-use Rattle.replay_model.specs.declared.reply.Reply.{Reply}
-use Rattle.replay_model.specs.State.{ClusterOpening}
-use Rattle.storm_model.specs.Merging.{owner_of_key}
+use Rattle.group_history.specs.declared.update.Update.{Update}
+use Rattle.group_history.specs.declared.update.Update.TheVariants as update
+use Rattle.group_history.specs.Acceptance.{updated_key}
+use Rattle.run_model.specs.declared.reply.Reply.{Reply}
+use Rattle.run_model.specs.State.{ClusterOpening}
+use Rattle.storm_model.specs.Merging.{behind_with, owner_of_key, with_said}
 use Rattle.storm_model.specs.Owners.{own_changes, own_replies}
 use Rattle.turn_relay.specs.OwnerState.{HasSentAll, IsSameOwner, OwnerState, Stands, journal_in}
 
@@ -36,15 +36,6 @@ abbrev pub IsAsked : Size → (owner : ℕ) → Event → (asked : Option Update
 IsAsked size owner (Set flow) asked = IsAskedOf size owner (update.Set flow) asked
 IsAsked size owner (Del key) asked = IsAskedOf size owner (update.Del key) asked
 IsAsked size owner event asked = asked ≡ None
-
--- the replies with one before them or behind them, if there is one
-abbrev pub with_said : Option Reply → List Reply → List Reply
-with_said None replies = replies
-with_said (Some reply) replies = reply ∷ replies
-
-abbrev pub behind_with : List Reply → Option Reply → List Reply
-behind_with replies None = replies
-behind_with replies (Some reply) = replies ++ reply ∷ []
 
 -- the owner's replies and changes from the event on are what it said of the event and those from then on
 pub record SaysOwn (opened : ClusterOpening) (owner : ℕ) (event : Event) (before after : List Change) (said : Option Reply) : Type 0 where

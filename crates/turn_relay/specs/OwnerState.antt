@@ -3,9 +3,9 @@ use Rattle.std.specs.Prelude.{◌≡◌, ℕ, ◌≤◌, Bool, List, length}
 use Rattle.flow_types.specs.declared.record.Flow.{Flow}
 use Rattle.flow_types.specs.Size.{Size}
 use Rattle.group_history.specs.declared.change.Change.{Change}
-use Rattle.turn_sender.specs.Sender.{IsSenderOf, SenderState, changes_in}
+use Rattle.turn_log.specs.Sender.{IsSenderOf, SenderState, changes_in}
 use Rattle.node_link.specs.Ends.{End}
-use Rattle.replay_model.specs.declared.reply.Reply.{Reply}
+use Rattle.run_model.specs.declared.reply.Reply.{Reply}
 use Rattle.turn_relay.specs.Each.{Each, Every}
 use Rattle.turn_relay.specs.Sent.{AreAllSent}
 

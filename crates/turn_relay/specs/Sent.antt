@@ -8,10 +8,9 @@ use Rattle.delta_codec.specs.declared.message.FibMessage.{FibMessage}
 use Rattle.delta_codec.specs.declared.message.Message.{Message}
 use Rattle.delta_codec.specs.declared.message.Message.TheVariants.{Table, Fib}
 use Rattle.delta_codec.specs.declared.message.TableMessage.{TableMessage}
-use Rattle.replica_shard.specs.Message.{IsTableMessageOf}
+use Rattle.delta_codec.specs.Messages.{IsTableMessageOf, IsFibMessageOf}
 use Rattle.replica_shard.specs.Turns.{AreTableMessagesOf}
-use Rattle.turn_sender.specs.Sender.{IsSenderOf, SenderState, changes_in}
-use Rattle.turn_sender.specs.Sent.{IsFibMessageOf}
+use Rattle.turn_log.specs.Sender.{IsSenderOf, SenderState, changes_in}
 use Rattle.node_link.specs.Ends.{End}
 use Rattle.turn_relay.specs.Each.{AllFrom}
 
@@ -31,7 +30,7 @@ abbrev pub AreFibMessagesOf : Size → (node owner : ℕ) → List Flow → List
 AreFibMessagesOf size node owner flows changes messages =
     (i : ℕ) (message : FibMessage) → slice_get messages i ≡ Some message → IsFibMessageOf size node owner flows changes (i + 1) message
 
--- these messages tell a node of so many of an owner's turns, of each for its table and for its FIB
+-- these messages tell a node of an owner's first turns, up to this number, of each for its table and for its FIB
 pub record AreSent (size : Size) (owner node : ℕ) (flows : List Flow) (changes : List Change) (turns : ℕ) (messages : List Message) : Type 0 where
   pub tables : AreTableMessagesOf size owner flows changes (tables_in messages)
   pub fibs : AreFibMessagesOf size node owner flows changes (fibs_in messages)

@@ -55,7 +55,8 @@ fn act<R: Wait>(
     ensures shard { table.new.shard ≡ table.old.shard }
     ensures book { fib.new.book ≡ fib.old.book }
     ensures opening { fib.new.opening ≡ fib.old.opening }
-    ensures follow { (before : List Message) → Follow table.old fib.old before state → Follow table.new fib.new (before ++ message ∷ []) result }
+    ensures follow { (before : List Message) → Follow table.old fib.old before state →
+        Follow table.new fib.new (before ++ message ∷ []) result }
 {
     match state {
         State::Clear => match message {
@@ -90,7 +91,8 @@ pub(crate) fn act_at<R: Wait, G: Gate>(
     ensures shard { table.new.shard ≡ table.old.shard }
     ensures book { fib.new.book ≡ fib.old.book }
     ensures opening { fib.new.opening ≡ fib.old.opening }
-    ensures follow { (before : List Message) → Follow table.old fib.old before state → Follow table.new fib.new (before ++ message ∷ []) result }
+    ensures follow { (before : List Message) → Follow table.old fib.old before state →
+        Follow table.new fib.new (before ++ message ∷ []) result }
 {
     let turn = turn_of(&message);
     gate.before(Who::Applier(node), turn);
@@ -175,7 +177,7 @@ fn take_all<R: Wait, G: Gate>(rt: &R, gate: &G, working: &[bool], appliers: &mut
     here || there
 }
 
-/// The work of these nodes' appliers in a phase: they take and apply messages until so many owners are done and afterwards no
+/// The work of these nodes' appliers in a phase: they take and apply messages until this many owners are done and afterwards no
 /// link has a message left.
 ///
 /// `working` says by the owners' numbers which work in the phase. Only their links are looked at, and the parts of the others

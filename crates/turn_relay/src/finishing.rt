@@ -110,6 +110,7 @@ fn is_clear(flows: &[Flow], owner: &Owner, applier: &Applier) -> bool
     requires done { IsDoneAt flows.now owner.now applier.now }
     ensures { result ≡ true → IsAtRestAt flows.now owner.now applier.now }
 {
+    // Only the contract speaks of the flows.
     let _ = flows;
     match applier.parts[usize::from(owner.number)].state {
         State::Clear => true,

@@ -22,8 +22,6 @@ mod owning;
 mod part;
 mod sending;
 mod state;
-#[cfg(test)]
-mod tests;
 
 pub use applier::{Applier, close_all, close_parts};
 pub use applying::apply_all;

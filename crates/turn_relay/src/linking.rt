@@ -22,6 +22,7 @@ fn link_part(alloc: Global, owner: &mut Owner, part: &mut Part) -> Result<(), Ou
 {
     owner.ends.reserve(1)?;
     let (sends, takes) = node_link::link(alloc, owner.shape)?;
+    // There is room: `reserve` came first.
     let _ = owner.ends.push(sends);
     part.end = Some(takes);
     Ok(())
@@ -55,6 +56,7 @@ fn link_node(
     ensures others { OnOk result (KeepsOthers owner.old.number applier.old applier.new) }
     ensures rests { OnOk result (IsAtRestAt flows.now owner.new applier.new) }
 {
+    // Only the contract speaks of the flows.
     let _ = flows;
     link_at(alloc, owner, applier)
 }

@@ -4,11 +4,11 @@ ghost use Rattle.turn_relay.specs.OwnerState.{OwnerState};
 
 use flow_types::Shape;
 use node_link::SendEnd;
-use replay_model::Reply;
+use run_model::Reply;
 use std::alloc::Global;
 use std::marker::Model;
 use std::mem::replace;
-use turn_sender::Sender;
+use turn_log::Sender;
 
 /// An owner of blocks, with its end of a link to each node, or of none.
 ///
@@ -38,7 +38,14 @@ impl Owner {
     pub fn new(alloc: Global, shape: Shape, number: u8, sender: Sender) -> Owner
         requires sized { sender.rib.size ≡ shape }
         requires numbered { sender.rib.number ≡ number }
-        ensures { result ≡ record { size = shape; number = number; sender = sender; ends = []; replies = []; failed = false } }
+        ensures { result ≡ record {
+          size = shape;
+          number = number;
+          sender = sender;
+          ends = [];
+          replies = [];
+          failed = false;
+        } }
     {
         let owner = Owner {
             shape,

@@ -1,16 +1,16 @@
 //! What an owner does with the events of a phase.
 ghost use Rattle.std.specs.Prelude.{◌≡◌, ◌≢◌, ℕ, ◌+◌, ◌<◌, ◌≤◌, ◌^◌, ◌∷◌, [], All, IfOk, IfSome, OnOk, length};
 ghost use Rattle.packet_reader.specs.declared.event.Event.{Event};
-ghost use Rattle.replay_model.specs.declared.reply.Reply.TheVariants.{Refused};
-ghost use Rattle.rib_owner.specs.Acceptance.{updated_key};
-ghost use Rattle.rib_owner.specs.declared.refused.UpdateRefused.TheVariants as causes;
+ghost use Rattle.run_model.specs.declared.reply.Reply.TheVariants.{Refused};
+ghost use Rattle.group_history.specs.Acceptance.{updated_key};
+ghost use Rattle.group_history.specs.declared.refused.UpdateRefused.TheVariants as causes;
 ghost use Rattle.storm_model.specs.Merging.{owner_of_key};
 ghost use Rattle.storm_model.specs.Owners.{own_after, own_reply};
 ghost use Rattle.turn_relay.specs.Each.{Each, Every};
 ghost use Rattle.turn_relay.specs.OwnWork.{AnswersOne, GoesToNode, HasOwned, IsAsked, IsOwnRow, OwnerDid, opening_of};
 ghost use Rattle.turn_relay.specs.OwnerState.{HasSentAll, IsSameLink, IsSameOwner, Stands, journal_in};
 ghost use Rattle.turn_relay.specs.Sent.{AreAllSent};
-ghost use Rattle.turn_sender.specs.Sender.{IsSenderOf, changes_in};
+ghost use Rattle.turn_log.specs.Sender.{IsSenderOf, changes_in};
 
 use crate::owner::Owner;
 use crate::sending::tell_each;
@@ -19,12 +19,12 @@ use hash_family::place;
 use node_link::SendEnd;
 use out_of_memory::OutOfMemory;
 use packet_reader::Event;
-use replay_model::Reply;
 use rib_owner::{Update, UpdateRefused};
+use run_model::Reply;
 use sb_io::{Gate, Who};
 use std::sync::Wait;
 use std::sync::atomic::{AtomicU64, Ordering};
-use turn_sender::Sender;
+use turn_log::Sender;
 
 /// The reply where the owner refuses an update for a cause.
 fn refused(cause: UpdateRefused) -> Result<Reply, OutOfMemory>
@@ -66,9 +66,12 @@ fn accept<R: Wait>(
     requires ends { (length ends.old ≤ shape.nodes) × Every (λ end. end.size ≡ shape) ends.old }
     ensures stands { IsSenderOf shape number flows.now sender.new }
     ensures links { Each IsSameLink ends.old ends.new }
-    ensures reply { IfOk result (λ reply. reply ≡ own_reply (opening_of shape flows.now) number (changes_in sender.old) asked) }
-    ensures grown { OnOk result (changes_in sender.new ≡ own_after (opening_of shape flows.now) (changes_in sender.old) asked) }
-    ensures sent { OnOk result (AreAllSent shape number flows.now (changes_in sender.old) ends.old → AreAllSent shape number flows.now (changes_in sender.new) ends.new) }
+    ensures reply { IfOk result (λ reply. reply ≡ own_reply (opening_of shape flows.now) number
+        (changes_in sender.old) asked) }
+    ensures grown { OnOk result (changes_in sender.new ≡ own_after (opening_of shape flows.now)
+        (changes_in sender.old) asked) }
+    ensures sent { OnOk result (AreAllSent shape number flows.now (changes_in sender.old) ends.old →
+        AreAllSent shape number flows.now (changes_in sender.new) ends.new) }
 {
     match sender.accept(flows, asked) {
         Ok(turn) => {

@@ -40,7 +40,15 @@ impl Part {
     pub fn new(shape: Shape, owner: u8, table: TableSeat, fib: FibWriter) -> Part
         requires table { (table.shard.shape ≡ shape) × (table.shard.owner ≡ owner) }
         requires fib { (fib.opening.size ≡ shape) × (fib.opening.owner ≡ owner) }
-        ensures { result ≡ record { size = shape; owner = owner; table = table; fib = fib; end = None; state = Clear } }
+        ensures { result ≡ record {
+          size = shape;
+          owner = owner;
+          table = table;
+          fib = fib;
+          end = None;
+          state
+              = Clear;
+        } }
     {
         let part = Part {
             shape,

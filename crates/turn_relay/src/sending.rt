@@ -3,7 +3,7 @@ ghost use Rattle.std.specs.Prelude.{◌≡◌, ◌+◌, ◌<◌, ◌≤◌, leng
 ghost use Rattle.turn_relay.specs.Each.{Each, Every};
 ghost use Rattle.turn_relay.specs.OwnerState.{IsSameLink};
 ghost use Rattle.turn_relay.specs.Sent.{TellsEach, TellsTurn};
-ghost use Rattle.turn_sender.specs.Sender.{changes_in};
+ghost use Rattle.turn_log.specs.Sender.{changes_in};
 
 use delta_codec::Message;
 use flow_types::Shape;
@@ -11,7 +11,7 @@ use flow_types::laws::numbers_of_a_shape;
 use node_link::{SendEnd, send};
 use out_of_memory::OutOfMemory;
 use std::sync::Wait;
-use turn_sender::Sender;
+use turn_log::Sender;
 
 /// Sends a node both messages of a turn, the one for its table first.
 fn tell_node<R: Wait>(

@@ -6,18 +6,18 @@ use Rattle.usage_meter.specs.declared.view.View.{View}
 use Rattle.usage_meter.specs.declared.view.View.TheVariants.{Live}
 use Rattle.usage_meter.specs.Plays.{IsLive, account}
 
-abbrev pub Place : Type 0
-Place = Seat ℕ View
+abbrev pub TableSeat : Type 0
+TableSeat = Seat ℕ View
 
 -- a meter's seat between two calls
-pub record IsMeterSeat (s : Place) : Type 0 where
+pub record IsMeterSeat (s : TableSeat) : Type 0 where
   pub live : IsLive s.me.0
   pub bare : s.me.1 ≡ []
 
-abbrev pub account_of : Place → Account
+abbrev pub account_of : TableSeat → Account
 account_of s = account s.me.0
 
 -- the seat t is s with this account
-pub record Becomes (s t : Place) (a : Account) : Type 0 where
+pub record Becomes (s t : TableSeat) (a : Account) : Type 0 where
   pub same : t.table_id ≡ s.table_id
   pub me : t.me ≡ (Live a, s.me.1)

@@ -16,20 +16,20 @@ opening_ration meter = meter.words.shared.key.ration
 
 -- the octets that a seat may still add
 abbrev pub ration_of : MeterSeat → ℕ
-ration_of seat = (account_of seat.place).ration
+ration_of seat = (account_of seat.inner).ration
 
 -- all adds of a seat, and of the seats that were gathered into it
 abbrev pub adds_of : MeterSeat → List Add
-adds_of seat = (account_of seat.place).adds
+adds_of seat = (account_of seat.inner).adds
 
 -- the totals that a seat has read, in order
 abbrev pub readings_of : MeterSeat → List Reading
-readings_of seat = (account_of seat.place).readings
+readings_of seat = (account_of seat.inner).readings
 
 -- the seat is the meter's
 pub record IsSeatOf (meter : Meter) (seat : MeterSeat) : Type 0 where
-  pub one_table : seat.place.table_id ≡ meter.words.shared.table_id
-  pub one_opening : (account_of seat.place).opening ≡ opening_ration meter
+  pub one_table : seat.inner.table_id ≡ meter.words.shared.table_id
+  pub one_opening : (account_of seat.inner).opening ≡ opening_ration meter
 
 -- no other seat has added, or may still add, anything
 abbrev pub IsWhole : Meter → MeterSeat → Type 0

@@ -26,9 +26,9 @@ pub struct Meter {
 impl Meter {
     ghost use Rattle.usage_meter.specs.Seats.{IsSeatOf, IsWhole, adds_of, nodes_of, opening_ration, ration_of, readings_of};
 
-    /// A meter for so many nodes, 1..=256, numbered from 0, and the first seat, which has the whole ration.
+    /// A meter for 1..=256 nodes, numbered from 0, and the first seat, which has the whole ration.
     ///
-    /// The ration is in octets: so many can be added to all totals together, which are 0. Memory is taken for the words,
+    /// The ration is in octets: no more can be added to all totals together, which are 0. Memory is taken for the words,
     /// 8 octets a node.
     pub fn new(alloc: Global, nodes: u16, ration: u64) -> Result<(Meter, MeterSeat), OutOfMemory>
         requires { (1 ≤ nodes) × (nodes ≤ 256) }
@@ -42,8 +42,8 @@ impl Meter {
     {
         let zeros = vec![in alloc; 0; usize::from(nodes)]?;
         let opening = Opening { nodes, ration };
-        let (words, place) = Table::of_words(alloc, zeros.as_slice(), &opening)?;
-        Ok((Meter { words }, MeterSeat { place }))
+        let (words, inner) = Table::of_words(alloc, zeros.as_slice(), &opening)?;
+        Ok((Meter { words }, MeterSeat { inner }))
     }
 
     /// A new seat with this ration, in octets, by which the other's falls.
@@ -64,13 +64,13 @@ impl Meter {
         ensures no_readings { readings_of result ≡ [] }
     {
         MeterSeat {
-            place: share::<Brand>(&self.words.shared, &mut from.place, ration),
+            inner: share::<Brand>(&self.words.shared, &mut from.inner, ration),
         }
     }
 
     /// Adds octets to a node's total, by one fetch-and-add, which any number of threads may make at once.
     ///
-    /// The seat is one of this meter, with a ration of at least so many octets; the node is below the number of nodes.
+    /// The seat is one of this meter, with a ration of at least these octets; the node is below the number of nodes.
     pub fn add(&self, seat: &mut MeterSeat, node: u8, octets: u16)
         requires seat { IsSeatOf self.now seat.old }
         requires node { node < nodes_of self.now }
@@ -82,7 +82,7 @@ impl Meter {
         ensures readings { readings_of seat.new ≡ readings_of seat.old }
     {
         let word = usize::from(node);
-        add_octets(&self.words.shared, &mut seat.place, word, u64::from(octets));
+        add_octets(&self.words.shared, &mut seat.inner, word, u64::from(octets));
     }
 
     /// A seat's ration and adds go to another, whose own adds stay before them. The other's readings are forgotten.
@@ -97,8 +97,8 @@ impl Meter {
         ensures adds { adds_of keep.new ≡ adds_of keep.old ++ adds_of other }
         ensures readings { readings_of keep.new ≡ readings_of keep.old }
     {
-        let MeterSeat { place } = other;
-        take_in(&self.words.shared, &mut keep.place, place);
+        let MeterSeat { inner } = other;
+        take_in(&self.words.shared, &mut keep.inner, inner);
     }
 
     /// A node's total, in octets, as one load finds it.
@@ -123,6 +123,6 @@ impl Meter {
         ensures ration { ration_of seat.new ≡ ration_of seat.old }
         ensures adds { adds_of seat.new ≡ adds_of seat.old }
     {
-        load_total(&self.words.shared, &mut seat.place, usize::from(node))
+        load_total(&self.words.shared, &mut seat.inner, usize::from(node))
     }
 }

@@ -27,7 +27,7 @@ pub type Words = Table<u64, View, Opening, Law, Global>;
 pub type Shelf = Shared<u64, View, Opening, Law>;
 
 /// A seat at that table.
-pub type Place = Seat<u64, View>;
+pub type TableSeat = Seat<u64, View>;
 
 /// A fetch-and-add of octets to a node's total.
 pub struct AddOctets;

@@ -9,7 +9,7 @@ use std::alloc::Global;
 use std::test::Fail;
 use std::thread::{Threads, join};
 
-/// Adds so many octets to a node's total, one at a time.
+/// Adds octets to a node's total, one at a time.
 #[tactic(auto, using(crate::proofs::Usage::usages))]
 fn add_singly(meter: &Meter, mut seat: MeterSeat, node: u8, count: u64) -> MeterSeat
     requires seat { IsSeatOf meter.now seat }

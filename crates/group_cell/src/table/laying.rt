@@ -8,10 +8,11 @@ ghost use Rattle.group_cell.specs.Rule.{RowsStand};
 ghost use Rattle.group_cell.specs.Layout.{sequence};
 ghost use Rattle.group_cell.specs.Seating.{AreOwners, places_of};
 
-use crate::layout::{BLOCK_WORDS, DATA_WORDS, GROUPS, PLACES, data_word, high_word, low_word};
+use crate::layout::{BLOCK_WORDS, DATA_WORDS, PLACES, data_word, high_word, low_word};
 use crate::table::placing::free_place;
 use crate::table::publishing::rows_kept;
 use crate::view::Address;
+use block_layout::GROUPS;
 use group_search::{BlockImage, GroupRecord, Row, pack, row_words};
 use std::alloc::{AllocError, Global};
 

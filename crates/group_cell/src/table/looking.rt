@@ -1,6 +1,6 @@
 //! The readers' steps.
 ghost use Rattle.std.specs.Prelude.{◌≡◌, ◌+◌, ◌^◌, ◌<◌, ◌≤◌, ◌∷◌, [], ◌++◌, IfErr, IfOk, IfSome, length};
-ghost use Rattle.group_search.specs.Published.{Extends};
+ghost use mathlib.Core.List.{IsPrefix};
 ghost use Rattle.group_cell.specs.Layout.{home_of};
 ghost use Rattle.group_cell.specs.Rule.{nodes_of, latest, HasLoaded, IsEven, IsIn};
 ghost use Rattle.group_cell.specs.Plays.{reader_view, IsReader, looked};
@@ -9,14 +9,14 @@ ghost use Rattle.group_cell.specs.Seating.{GoesOn, HasBegun, IsAt, IsFound, IsLo
 ghost use Rattle.group_cell.specs.Seats.{FindsNode, Changes, IsReaderOf, LoadsDataAlone, looks, opened_with, seen, the_group};
 
 use crate::layout::{DATA_WORDS, PLACES, data_word, high_word, low_word, sequence_word, tag};
-use crate::plays::{EndLook, Load, Place, Shelf, StartLook};
+use crate::plays::{CellSeat, EndLook, Load, Shelf, StartLook};
 use crate::table::decoding::{decoded, has_rows, node_in};
 use crate::table::{CellTable, Changing, Look, ReaderSeat};
 use crate::view::Address;
 use flow_types::FlowKey;
 
 // Loads the group's sequence word.
-fn begin(shelf: &Shelf, seat: &mut Place, at: Address) -> u64
+fn begin(shelf: &Shelf, seat: &mut CellSeat, at: Address) -> u64
     requires own { seat.old.table_id ≡ shelf.now.table_id }
     requires inside { IsAt shelf.now.table_id.words shelf.now.key.value (home_of at) }
     requires reads { IsReader seat.old.me.0 }
@@ -26,7 +26,7 @@ fn begin(shelf: &Shelf, seat: &mut Place, at: Address) -> u64
 }
 
 // Loads a word in a look.
-fn load(shelf: &Shelf, seat: &mut Place, word: usize) -> u64
+fn load(shelf: &Shelf, seat: &mut CellSeat, word: usize) -> u64
     requires own { seat.old.table_id ≡ shelf.now.table_id }
     requires inside { word < shelf.now.table_id.words }
     requires looking { IsLooking seat.old }
@@ -38,7 +38,7 @@ fn load(shelf: &Shelf, seat: &mut Place, word: usize) -> u64
 }
 
 // Loads the group's data words.
-fn gather(shelf: &Shelf, seat: &mut Place, at: Address) -> [u64; DATA_WORDS]
+fn gather(shelf: &Shelf, seat: &mut CellSeat, at: Address) -> [u64; DATA_WORDS]
     requires own { seat.old.table_id ≡ shelf.now.table_id }
     requires inside { IsAt shelf.now.table_id.words shelf.now.key.value (home_of at) }
     requires looking { IsLooking seat.old }
@@ -57,7 +57,7 @@ fn gather(shelf: &Shelf, seat: &mut Place, at: Address) -> [u64; DATA_WORDS]
 // Loads a place, and answers the node in it if it has the key.
 fn probe(
     shelf: &Shelf,
-    seat: &mut Place,
+    seat: &mut CellSeat,
     at: Address,
     place: usize,
     key: FlowKey,
@@ -84,7 +84,7 @@ fn probe(
 }
 
 // Goes over all places of the block, where the first data word is that of a record with rows.
-fn search(shelf: &Shelf, seat: &mut Place, at: Address, datum: u64, key: FlowKey) -> Option<u8>
+fn search(shelf: &Shelf, seat: &mut CellSeat, at: Address, datum: u64, key: FlowKey) -> Option<u8>
     requires own { seat.old.table_id ≡ shelf.now.table_id }
     requires inside { IsAt shelf.now.table_id.words shelf.now.key.value (home_of at) }
     requires looking { IsLooking seat.old }
@@ -104,7 +104,7 @@ fn search(shelf: &Shelf, seat: &mut Place, at: Address, datum: u64, key: FlowKey
 }
 
 // Loads the group's sequence word once more.
-fn end(shelf: &Shelf, seat: &mut Place, at: Address) -> u64
+fn end(shelf: &Shelf, seat: &mut CellSeat, at: Address) -> u64
     requires own { seat.old.table_id ≡ shelf.now.table_id }
     requires inside { IsAt shelf.now.table_id.words shelf.now.key.value (home_of at) }
     requires looking { IsLooking seat.old }
@@ -134,7 +134,7 @@ impl CellTable {
         requires inside { IsIn (opened_with self.now) (the_group block group) }
 
         ensures reader { IsReaderOf self.now reader.new }
-        ensures later { Extends (seen reader.old) (seen reader.new) }
+        ensures later { IsPrefix (seen reader.old) (seen reader.new) }
         ensures looks { looks reader.new ≡ looks reader.old + 1 }
         ensures answer { IfOk result (λ l. FindsNode (opened_with self.now) reader.new (the_group block group) key l.version l.node) }
         ensures in_cluster { IfOk result (λ l. IfSome l.node (λ node. node < (opened_with self.now).size.nodes)) }

@@ -1,6 +1,6 @@
 //! Seats that are made, and seats that meet.
 ghost use Rattle.std.specs.Prelude.{◌≡◌};
-ghost use Rattle.group_search.specs.Published.{Extends};
+ghost use mathlib.Core.List.{IsPrefix};
 ghost use Rattle.group_cell.specs.Seats.{IsReaderOf, IsWriterOf, published, seen};
 
 use crate::plays::{Ask, Branch, Hear};
@@ -30,7 +30,7 @@ impl CellTable {
 
         ensures reader { IsReaderOf self.now reader.new }
         ensures all { seen reader.new ≡ published writer.old }
-        ensures before { Extends (seen reader.old) (published writer.old) }
+        ensures before { IsPrefix (seen reader.old) (published writer.old) }
         ensures writer { IsWriterOf self.now writer.new }
         ensures kept { published writer.new ≡ published writer.old }
     {

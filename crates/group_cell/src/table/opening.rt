@@ -1,12 +1,11 @@
 //! A table is opened.
 ghost use Rattle.std.specs.Prelude.{◌≡◌, ◌<◌, ◌≤◌, [], All, IfOk, length, sum_by};
 ghost use Rattle.flow_types.specs.Size.{value_bits};
-ghost use Rattle.group_search.specs.declared.record.GroupRecord.{GroupRecord};
 ghost use Rattle.group_search.specs.Canon.{rows_in};
 ghost use Rattle.group_search.specs.Image.{Image};
 ghost use Rattle.group_search.specs.Words.{HasBits};
 ghost use Rattle.group_cell.specs.Opening.{HaveAllGroups};
-ghost use Rattle.group_cell.specs.Rule.{HasNodes};
+ghost use Rattle.group_search.specs.Records.{HasNodes};
 ghost use Rattle.group_cell.specs.Seats.{IsWriterOf, opened_with, published};
 
 use crate::layout::PLACES;
@@ -86,8 +85,8 @@ impl CellTable {
     /// A table of the groups of these blocks, numbered from 0, at their opening records, and its writer's seat.
     ///
     /// There is at least one image, no image has more than 64 rows in all, rows go to the cluster's nodes, and served
-    /// records have the cluster's value bits. Memory is taken for the table's words, 2,560 octets a block, and while it
-    /// is opened for copies of the images. `open_plan` opens many tables of the same images.
+    /// records have the cluster's value bits. Memory is taken for the table's words, 2,560 octets a block, for the tags
+    /// of its places, and while it is opened for its plan. `open_plan` opens many tables of the same images.
     pub fn open(
         alloc: Global,
         shape: Shape,

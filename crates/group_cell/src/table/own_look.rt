@@ -1,40 +1,40 @@
 //! The writer's look at its own table.
 ghost use Rattle.std.specs.Prelude.{◌≡◌, ℕ, ◌+◌, ◌^◌, ◌<◌, ◌≤◌, IfSome, Option, length, slice_index};
 ghost use Rattle.group_search.specs.Published.{count};
-ghost use Rattle.group_cell.specs.Layout.{home_of, high, datum, tag};
+ghost use Rattle.group_cell.specs.Layout.{data_words, home_of, high, datum, tag};
 ghost use Rattle.group_cell.specs.Rule.{IsIn, Stands};
 ghost use Rattle.group_cell.specs.Plays.{writer_view, IsWriter};
-ghost use Rattle.group_cell.specs.Seating.{AreOwners, IsAt, IsSamePlace, StandsFound, words_of_seat};
+ghost use Rattle.group_cell.specs.Seating.{AreOwners, IsAt, IsSameSeat, StandsFound, words_of_seat};
 ghost use Rattle.group_cell.specs.Seats.{IsWriterOf, node_at_version, opened_with, published, the_group};
 
 use crate::layout::{DATA_WORDS, PLACES, data_word, high_word, low_word, sequence_word};
-use crate::plays::{Ask, Place, Shelf};
+use crate::plays::{Ask, CellSeat, Shelf};
 use crate::table::decoding::{decoded, has_rows, node_in};
 use crate::table::{CellTable, Look, WriterSeat};
 use crate::view::Address;
 use flow_types::FlowKey;
 
 // Loads a word of the writer's.
-fn ask(shelf: &Shelf, seat: &mut Place, word: usize) -> u64
+fn ask(shelf: &Shelf, seat: &mut CellSeat, word: usize) -> u64
     requires own { seat.old.table_id ≡ shelf.now.table_id }
     requires inside { word < shelf.now.table_id.words }
     requires writes { IsWriter seat.old.me.0 }
     ensures found { result ≡ slice_index (words_of_seat seat.old) word }
     ensures stands { Stands (writer_view seat.old.me.0) }
-    ensures same { IsSamePlace seat.old seat.new }
+    ensures same { IsSameSeat seat.old seat.new }
     ensures kept { seat.new.me ≡ seat.old.me }
 {
     shelf.load::<Ask>(seat, word)
 }
 
 // Loads the group's data words.
-fn ask_data(shelf: &Shelf, seat: &mut Place, at: Address) -> [u64; DATA_WORDS]
+fn ask_data(shelf: &Shelf, seat: &mut CellSeat, at: Address) -> [u64; DATA_WORDS]
     requires own { seat.old.table_id ≡ shelf.now.table_id }
     requires inside { IsAt shelf.now.table_id.words shelf.now.key.value (home_of at) }
     requires writes { IsWriter seat.old.me.0 }
     ensures width { length result ≡ 2 }
-    ensures found { (j : ℕ) → j < 2 → slice_index result j ≡ datum (words_of_seat seat.old) (home_of at) j }
-    ensures same { IsSamePlace seat.old seat.new }
+    ensures found { (j : ℕ) → j < data_words → slice_index result j ≡ datum (words_of_seat seat.old) (home_of at) j }
+    ensures same { IsSameSeat seat.old seat.new }
     ensures kept { seat.new.me ≡ seat.old.me }
 {
     let mut words = [0; DATA_WORDS];
@@ -47,7 +47,7 @@ fn ask_data(shelf: &Shelf, seat: &mut Place, at: Address) -> [u64; DATA_WORDS]
 // Loads a place if it is the group's, and answers the node in it if it has the key.
 fn probe(
     shelf: &Shelf,
-    seat: &mut Place,
+    seat: &mut CellSeat,
     owner: u8,
     at: Address,
     place: usize,
@@ -61,7 +61,7 @@ fn probe(
     requires owner { owner ≡ tag (high (words_of_seat seat.old) at.block place) }
     requires found { StandsFound (words_of_seat seat.old) (home_of at) place key found }
     ensures found { StandsFound (words_of_seat seat.old) (home_of at) (place + 1) key result }
-    ensures same { IsSamePlace seat.old seat.new }
+    ensures same { IsSameSeat seat.old seat.new }
     ensures kept { seat.new.me ≡ seat.old.me }
 {
     if owner != at.group + 1 {
@@ -78,7 +78,7 @@ fn probe(
 // Goes over the group's places, where the first data word is that of a record with rows.
 fn search(
     shelf: &Shelf,
-    seat: &mut Place,
+    seat: &mut CellSeat,
     owners: &[u8; PLACES],
     at: Address,
     datum: u64,
@@ -89,7 +89,7 @@ fn search(
     requires writes { IsWriter seat.old.me.0 }
     requires owners { AreOwners owners.now (words_of_seat seat.old) at.block }
     ensures found { 2 ^ 48 ≤ datum → StandsFound (words_of_seat seat.old) (home_of at) 64 key result }
-    ensures same { IsSamePlace seat.old seat.new }
+    ensures same { IsSameSeat seat.old seat.new }
     ensures kept { seat.new.me ≡ seat.old.me }
 {
     if !has_rows(datum) {

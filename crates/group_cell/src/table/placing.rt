@@ -6,7 +6,7 @@ ghost use Rattle.group_cell.specs.Rule.{RowsStand};
 ghost use Rattle.group_cell.specs.Seating.{AreOwners, IsAt, IsInWriting, Rewrites, places_of, words_of_seat};
 
 use crate::layout::{PLACES, high_word, low_word};
-use crate::plays::{Place, Shelf, Store};
+use crate::plays::{CellSeat, Shelf, Store};
 use crate::view::Address;
 use group_search::{Row, row_words};
 
@@ -24,7 +24,7 @@ pub fn free_place(owners: &[u8; PLACES]) -> usize
 }
 
 // Frees a place of the group.
-fn release(shelf: &Shelf, seat: &mut Place, owners: &mut [u8; PLACES], at: Address, place: usize)
+fn release(shelf: &Shelf, seat: &mut CellSeat, owners: &mut [u8; PLACES], at: Address, place: usize)
     requires own { seat.old.table_id ≡ shelf.now.table_id }
     requires inside { IsAt shelf.now.table_id.words shelf.now.key.value (home_of at) }
     requires place { place < 64 }
@@ -40,7 +40,7 @@ fn release(shelf: &Shelf, seat: &mut Place, owners: &mut [u8; PLACES], at: Addre
 }
 
 /// Puts a row into a free place.
-pub fn put(shelf: &Shelf, seat: &mut Place, owners: &mut [u8; PLACES], at: Address, row: Row)
+pub fn put(shelf: &Shelf, seat: &mut CellSeat, owners: &mut [u8; PLACES], at: Address, row: Row)
     requires own { seat.old.table_id ≡ shelf.now.table_id }
     requires inside { IsAt shelf.now.table_id.words shelf.now.key.value (home_of at) }
     requires writing { IsInWriting seat.old (home_of at) }
@@ -63,7 +63,7 @@ pub fn put(shelf: &Shelf, seat: &mut Place, owners: &mut [u8; PLACES], at: Addre
 }
 
 /// Frees all places of the group.
-pub fn vacate(shelf: &Shelf, seat: &mut Place, owners: &mut [u8; PLACES], at: Address)
+pub fn vacate(shelf: &Shelf, seat: &mut CellSeat, owners: &mut [u8; PLACES], at: Address)
     requires own { seat.old.table_id ≡ shelf.now.table_id }
     requires inside { IsAt shelf.now.table_id.words shelf.now.key.value (home_of at) }
     requires writing { IsInWriting seat.old (home_of at) }
@@ -85,7 +85,7 @@ pub fn vacate(shelf: &Shelf, seat: &mut Place, owners: &mut [u8; PLACES], at: Ad
 /// Puts each row into a free place.
 pub fn lay_rows(
     shelf: &Shelf,
-    seat: &mut Place,
+    seat: &mut CellSeat,
     owners: &mut [u8; PLACES],
     at: Address,
     rows: &[Row],

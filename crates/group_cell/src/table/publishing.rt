@@ -1,16 +1,17 @@
 //! The writer's steps on a group's own words, and a whole publication.
-ghost use Rattle.std.specs.Prelude.{◌≡◌, ℕ, ◌+◌, ◌*◌, ◌^◌, ◌<◌, ◌≤◌, ◌∷◌, [], ◌++◌, length, Option, Some, None, slice_index};
+ghost use Rattle.std.specs.Prelude.{◌≡◌, ℕ, ◌+◌, ◌*◌, ◌^◌, ◌<◌, ◌≤◌, ◌∷◌, [], ◌++◌, length, slice_index};
 ghost use Rattle.flow_types.specs.Size.{value_bits};
 ghost use Rattle.group_search.specs.Canon.{rows_in};
-ghost use Rattle.group_search.specs.Words.{HasBits, PacksTo, packed_of, words_of};
-ghost use Rattle.group_cell.specs.Layout.{home_of, sequence, datum};
-ghost use Rattle.group_cell.specs.Rule.{HasNodes, Holds, IsIn, IsSoundRecord, nodes_of, rows_placed};
+ghost use Rattle.group_search.specs.Words.{HasBits};
+ghost use Rattle.group_cell.specs.Layout.{block_words, data_words, home_of, sequence, datum};
+ghost use Rattle.group_search.specs.Records.{HasNodes};
+ghost use Rattle.group_cell.specs.Rule.{Holds, IsIn, IsSoundRecord, nodes_of, rows_placed};
 ghost use Rattle.group_cell.specs.Plays.{begun, ended, publication, writer_view};
 ghost use Rattle.group_cell.specs.Seating.{IsAt, IsInWriting, IsWriterSeat, Writes, WritesData, words_of_seat};
 ghost use Rattle.group_cell.specs.Seats.{IsWriterOf, opened_with, published, rows_beside, the_group};
 
 use crate::layout::{DATA_WORDS, data_word, sequence_word};
-use crate::plays::{Ask, Begin, End, Naming, Place, Shelf, Store};
+use crate::plays::{Ask, Begin, CellSeat, End, Naming, Shelf, Store};
 use crate::table::placing::{lay_rows, vacate};
 use crate::table::{CellTable, WriterSeat};
 use crate::view::Address;
@@ -18,7 +19,7 @@ use group_search::{GroupRecord, Row, pack};
 use std::marker::Brand;
 
 // Makes the group's sequence word odd, and says what it was.
-fn begin(shelf: &Shelf, seat: &mut Place, at: Address) -> u64
+fn begin(shelf: &Shelf, seat: &mut CellSeat, at: Address) -> u64
     requires own { seat.old.table_id ≡ shelf.now.table_id }
     requires inside { IsAt shelf.now.table_id.words shelf.now.key.value (home_of at) }
     requires rests { IsWriterSeat seat.old }
@@ -33,12 +34,12 @@ fn begin(shelf: &Shelf, seat: &mut Place, at: Address) -> u64
 }
 
 // Stores the data words.
-fn write(shelf: &Shelf, seat: &mut Place, at: Address, words: [u64; DATA_WORDS])
+fn write(shelf: &Shelf, seat: &mut CellSeat, at: Address, words: [u64; DATA_WORDS])
     requires own { seat.old.table_id ≡ shelf.now.table_id }
     requires inside { IsAt shelf.now.table_id.words shelf.now.key.value (home_of at) }
     requires writing { IsInWriting seat.old (home_of at) }
-    requires wide { 320 * at.block + 320 ≤ length (words_of_seat seat.old) }
-    ensures data_words { (j : ℕ) → j < 2 → datum (words_of_seat seat.new) (home_of at) j ≡ slice_index words j }
+    requires wide { block_words * at.block + block_words ≤ length (words_of_seat seat.old) }
+    ensures data_words { (j : ℕ) → j < data_words → datum (words_of_seat seat.new) (home_of at) j ≡ slice_index words j }
     ensures writes { WritesData (home_of at) seat.old seat.new }
 {
     'stores: for number in 0..DATA_WORDS {
@@ -47,7 +48,13 @@ fn write(shelf: &Shelf, seat: &mut Place, at: Address, words: [u64; DATA_WORDS])
 }
 
 // Makes the group's sequence word even: the record is published.
-fn finish<C: Naming>(shelf: &Shelf, seat: &mut Place, at: Address, content: &GroupRecord, even: u64)
+fn finish<C: Naming>(
+    shelf: &Shelf,
+    seat: &mut CellSeat,
+    at: Address,
+    content: &GroupRecord,
+    even: u64,
+)
     requires own { seat.old.table_id ≡ shelf.now.table_id }
     requires inside { IsAt shelf.now.table_id.words shelf.now.key.value (home_of at) }
     requires writing { IsInWriting seat.old (home_of at) }

@@ -13,8 +13,8 @@ use out_of_memory::OutOfMemory;
 use std::alloc::Global;
 use std::sync::Wait;
 
-/// Shares a FIB among one writer and so many readers, which have seen no turn yet. There is at least one reader, and the FIB has
-/// taken no turn.
+/// Shares a FIB among one writer and this number of readers, which have seen no turn yet. There is at least one reader, and the
+/// FIB has taken no turn.
 ///
 /// After `OutOfMemory` the FIB is dropped. It asks again for a reader that it isn't given at once.
 pub fn share<R: Wait>(
@@ -74,7 +74,7 @@ fn opened<R: Wait>(rt: &R, pen: Pen) -> Result<Pen, OutOfMemory>
     }
 }
 
-/// Gives so many readers, each of which knows what the writer knows.
+/// Gives this number of readers, each of which knows what the writer knows.
 fn dealt<R: Wait>(
     rt: &R,
     pen: Pen,

@@ -1,4 +1,5 @@
 ghost use Rattle.std.specs.Prelude.{◌≡◌, ◌<◌, ◌%◌, [], length, Some};
+ghost use Rattle.block_layout.specs.Limits.{group_count};
 ghost use Rattle.flow_types.specs.Key.{number};
 ghost use Rattle.partial_fib.specs.declared.sharing.shown.Shown.{Shown};
 ghost use Rattle.partial_fib.specs.Ends.{IsLater, shared_after};
@@ -83,14 +84,15 @@ impl FibReader {
         }
     }
 
-    /// The version of a group and the record of a key of it, after the turns that are published at one moment of this call.
+    /// The version of a group and the record of a key of it, after published turns: all that the reader had seen before, and
+    /// perhaps more.
     ///
     /// The block belongs to the owner, and the group is below 64. It takes no memory. It waits for no other call, but enters
     /// again where the writer is just closing.
     pub fn find<R: Wait>(&mut self, rt: &R, block: u16, group: u8, key: FlowKey) -> FibSeen
         requires within { block < self.old.opening.size.blocks }
         requires owned { block % self.old.opening.size.nodes ≡ self.old.opening.owner }
-        requires in_block { group < 64 }
+        requires in_block { group < group_count }
         ensures later { IsLater self.old self.new }
         ensures count { result.version ≡ turn_count (record { block = block; group = group }) self.new.turns }
         ensures version { result.version ≡ (shared_after self.new.opening self.new.turns).versions (record { block = block; group = group }) }
@@ -105,7 +107,7 @@ impl FibReader {
         found
     }
 
-    /// Sees the turns that are published at one moment of this call.
+    /// Sees all published turns that it had seen before, and perhaps more.
     pub(crate) fn look<R: Wait>(&mut self, rt: &R)
         ensures { IsLater self.old self.new }
     {

@@ -1,6 +1,6 @@
 ghost use Rattle.std.specs.Prelude.{◌≡◌, ◌≤◌, ◌<◌, [], length, All, IfOk, IfSome};
 ghost use Rattle.partial_fib.specs.Ends.{IsLater};
-ghost use Rattle.partial_fib.specs.Message.{FibMessageFits};
+ghost use Rattle.delta_codec.specs.Messages.{FibMessageFits};
 
 use crate::{Fib, FibReader, FibRefused, FibSeen, FibWriter, share, told};
 use delta_codec::{FibMessage, FibOp};
@@ -194,7 +194,9 @@ fn readers_find_what_is_applied(rt: HostRuntime) -> Result<(), Fail> {
     says(&rt, &mut reader, 1, nothing);
     told(&rt, &mut reader, &mut writer);
     says(&rt, &mut reader, 0, first);
-    writer.close(&rt);
+    let fib = writer.into_fib(&rt);
+    assert_eq!(rt; fib.taken(), 1);
+    assert_eq!(rt; fib.find(1, 0, key_of(0)), first);
     Ok(())
 }
 
@@ -287,7 +289,7 @@ fn grow<R: Wait>(rt: &R, writer: &mut FibWriter) -> Option<u32>
     Some(taken)
 }
 
-/// How many keys a reader finds other than the first so many turns say.
+/// How many keys a reader finds other than the turns up to this number say.
 fn count_wrong<R: Wait>(rt: &R, reader: &mut FibReader, taken: u32) -> u32
     requires size { reader.old.opening.size ≡ record { nodes = 4; blocks = 2 } }
     requires owner { reader.old.opening.owner ≡ 1 }

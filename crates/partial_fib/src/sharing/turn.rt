@@ -1,5 +1,5 @@
 ghost use Rattle.delta_codec.specs.Values.{IsOperation};
-ghost use Rattle.partial_fib.specs.Message.{FibMessageFits};
+ghost use Rattle.delta_codec.specs.Messages.{FibMessageFits};
 
 use crate::sharing::history::Past;
 use delta_codec::FibMessage;

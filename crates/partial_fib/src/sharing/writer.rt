@@ -1,16 +1,18 @@
 ghost use Rattle.std.specs.Prelude.{◌≡◌, ◌≢◌, ◌↔◌, ℕ, ◌+◌, ◌^◌, ◌<◌, ◌≤◌, ◌++◌, ◌∷◌, [], length, drop, true, false, MatchBool, OnOk, IsErrOf};
+ghost use Rattle.delta_codec.specs.Turns.{IsEarly, IsForeign, IsRepeat};
 ghost use Rattle.delta_codec.specs.Values.{IsOperation};
 ghost use Rattle.partial_fib.specs.declared.refused.FibRefused.{FibRefused};
 ghost use Rattle.partial_fib.specs.declared.refused.FibRefused.TheVariants.{Foreign, Repeat, Early, OutOfMemory};
-ghost use Rattle.partial_fib.specs.Ends.{after_refusal, published};
+ghost use Rattle.partial_fib.specs.Ends.{after_refusal, published, shared_after};
 ghost use Rattle.partial_fib.specs.History.{shared_fib};
-ghost use Rattle.partial_fib.specs.Message.{FibMessageFits, IsNextTurn};
+ghost use Rattle.delta_codec.specs.Messages.{FibMessageFits, IsNextTurn};
 ghost use Rattle.partial_fib.specs.Rule.{IsRight, shown_after};
+ghost use Rattle.partial_fib.specs.Store.{state_of};
 
 use crate::fib::Fib;
 use crate::refused::FibRefused;
 use crate::sharing::history::{Author, Origin, Past};
-use crate::sharing::shown::{Looks, Pen};
+use crate::sharing::shown::{Looks, Pen, Shown};
 use crate::sharing::turn::Turn;
 use delta_codec::{FibMessage, FibOp};
 use std::marker::Model;
@@ -18,7 +20,7 @@ use std::sync::Wait;
 
 /// The one writer of a shared FIB. A contract sees the turns that are published, and whether it has met want of memory.
 ///
-/// It can't be dropped: `close` ends it.
+/// It can't be dropped: `into_fib` or `close` ends it.
 pub struct FibWriter {
     // A call has it while it publishes.
     pen: Option<Pen>,
@@ -70,13 +72,11 @@ impl FibWriter {
         requires { FibMessageFits self.old.opening.size message.now }
         ensures published { OnOk result (self.new ≡ published self.old message.now) }
         ensures foreign { (owner : ℕ) → IsErrOf result (Foreign owner) ↔
-            ((self.old.spent ≡ false) × (message.now.owner ≢ self.old.opening.owner) × (owner ≡ message.now.owner)) }
+            ((self.old.spent ≡ false) × IsForeign self.old.opening.owner message.now.owner owner) }
         ensures repeat { (have : ℕ) → IsErrOf result (Repeat have) ↔
-            ((self.old.spent ≡ false) × (message.now.owner ≡ self.old.opening.owner)
-            × (message.now.turn ≤ length self.old.turns) × (have ≡ length self.old.turns)) }
+            ((self.old.spent ≡ false) × IsRepeat self.old.opening.owner (length self.old.turns) message.now.owner message.now.turn have) }
         ensures early { (have : ℕ) → IsErrOf result (Early have) ↔
-            ((self.old.spent ≡ false) × (message.now.owner ≡ self.old.opening.owner)
-            × (length self.old.turns + 1 < message.now.turn) × (have ≡ length self.old.turns)) }
+            ((self.old.spent ≡ false) × IsEarly self.old.opening.owner (length self.old.turns) message.now.owner message.now.turn have) }
         ensures spent { self.old.spent ≡ true → IsErrOf result OutOfMemory }
         ensures refused { (cause : FibRefused) → IsErrOf result cause → self.new ≡ after_refusal self.old cause }
         // It stays the writer of this sharing, whatever it answers.
@@ -130,9 +130,15 @@ impl FibWriter {
         &self.past
     }
 
-    /// Ends the writer, and drops the FIB. It waits for readers that are inside a `find`. A reader that is asked afterwards may
-    /// never answer. It takes no memory.
-    pub fn close<R: Wait>(self, rt: &R) {
+    /// Ends the writer, and gives back what readers found last: the FIB that was shared, after the turns that are published.
+    ///
+    /// It waits for readers that are inside a `find`. A reader that is asked afterwards may never answer. It takes no memory.
+    pub fn into_fib<R: Wait>(self, rt: &R) -> Fib
+        ensures fib { state_of result ≡ shared_after self.opening self.turns }
+        ensures size { result.size ≡ self.opening.size }
+        ensures owner { result.owner ≡ self.opening.owner }
+        ensures taken { result.taken ≡ length self.turns }
+    {
         let FibWriter {
             pen,
             author: _author,
@@ -140,12 +146,19 @@ impl FibWriter {
             past: _past,
             spent: _,
         } = self;
-        match pen {
-            Some(pen) => {
-                pen.take(rt);
-            }
-            None => (),
-        }
+        let Some(pen) = pen else { unreachable!() };
+        let Shown {
+            fib,
+            origin: _its_origin,
+            past: _its_past,
+        } = Box::into_inner(pen.take(rt));
+        fib
+    }
+
+    /// Ends the writer, and drops the FIB, which `into_fib` gives back. No clause speaks of it, since nothing is left to speak
+    /// of: it waits as `into_fib` does, and readers keep what they have seen.
+    pub fn close<R: Wait>(self, rt: &R) {
+        self.into_fib(rt);
     }
 }
 

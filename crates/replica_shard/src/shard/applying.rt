@@ -1,8 +1,9 @@
 //! An owner's turns are taken.
-ghost use Rattle.std.specs.Prelude.{◌≡◌, ◌≢◌, ◌↔◌, ◌<◌, ◌≤◌, ◌+◌, ◌∷◌, [], ◌++◌, ℕ, OnOk, OnErr, IsErrOf, length};
+ghost use Rattle.std.specs.Prelude.{◌≡◌, ◌↔◌, ◌<◌, ◌+◌, ◌∷◌, [], ◌++◌, ℕ, OnOk, OnErr, IsErrOf, length};
 ghost use Rattle.group_search.specs.Canon.{rows_in};
+ghost use Rattle.delta_codec.specs.Turns.{IsEarly, IsForeign, IsRepeat};
 ghost use Rattle.replica_shard.specs.declared.refused.ShardRefused.TheVariants.{Foreign, Repeat, Early, RowsFull};
-ghost use Rattle.replica_shard.specs.Message.{TableMessageFits};
+ghost use Rattle.delta_codec.specs.Messages.{TableMessageFits};
 ghost use Rattle.replica_shard.specs.Owners.{publication_of};
 ghost use Rattle.replica_shard.specs.Seats.{IsShardWriterOf, shard_taken, taken_list};
 ghost use Rattle.replica_shard.specs.Shard.{free_rows, with_content};
@@ -26,14 +27,11 @@ impl Shard {
         ensures writer { IsShardWriterOf self.now writer.new }
         ensures listed { OnOk result (taken_list self.now writer.new ≡ taken_list self.now writer.old ++ publication_of message.now ∷ []) }
         ensures taken { OnOk result (shard_state_of (shard_taken self.now writer.new) ≡ with_content (shard_state_of (shard_taken self.now writer.old)) message.now) }
-        ensures foreign { (owner : ℕ) → IsErrOf result (Foreign owner) ↔
-            ((message.now.owner ≢ self.now.owner) × (owner ≡ message.now.owner)) }
+        ensures foreign { (owner : ℕ) → IsErrOf result (Foreign owner) ↔ IsForeign self.now.owner message.now.owner owner }
         ensures repeat { (have : ℕ) → IsErrOf result (Repeat have) ↔
-            ((message.now.owner ≡ self.now.owner) × (message.now.turn ≤ length (taken_list self.now writer.old)) ×
-            (have ≡ length (taken_list self.now writer.old))) }
+            IsRepeat self.now.owner (length (taken_list self.now writer.old)) message.now.owner message.now.turn have }
         ensures early { (have : ℕ) → IsErrOf result (Early have) ↔
-            ((message.now.owner ≡ self.now.owner) × (length (taken_list self.now writer.old) + 1 < message.now.turn) ×
-            (have ≡ length (taken_list self.now writer.old))) }
+            IsEarly self.now.owner (length (taken_list self.now writer.old)) message.now.owner message.now.turn have }
         ensures rows_full { (needed free : ℕ) → IsErrOf result (RowsFull needed free) ↔
             ((message.now.owner ≡ self.now.owner) × (message.now.turn ≡ length (taken_list self.now writer.old) + 1) ×
             (needed ≡ rows_in message.now.content) ×

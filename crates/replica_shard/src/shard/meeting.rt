@@ -1,6 +1,6 @@
 //! Seats that are made, and seats that meet.
 ghost use Rattle.std.specs.Prelude.{◌≡◌};
-ghost use Rattle.group_search.specs.Published.{Extends};
+ghost use mathlib.Core.List.{IsPrefix};
 ghost use Rattle.replica_shard.specs.Seats.{IsShardReaderOf, IsShardWriterOf, seen_list, taken_list};
 
 use crate::shard::{Shard, ShardReader, ShardWriter};
@@ -27,7 +27,7 @@ impl Shard {
         requires writer { IsShardWriterOf self.now writer.old }
         ensures reader { IsShardReaderOf self.now reader.new }
         ensures all { seen_list self.now reader.new ≡ taken_list self.now writer.old }
-        ensures before { Extends (seen_list self.now reader.old) (taken_list self.now writer.old) }
+        ensures before { IsPrefix (seen_list self.now reader.old) (taken_list self.now writer.old) }
         ensures writer { IsShardWriterOf self.now writer.new }
         ensures kept { taken_list self.now writer.new ≡ taken_list self.now writer.old }
     {

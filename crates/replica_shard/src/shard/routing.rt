@@ -1,10 +1,10 @@
 //! Keys are sent to nodes.
 ghost use Rattle.std.specs.Prelude.{◌≡◌, ◌+◌, ◌*◌, ◌/◌, ◌%◌, ◌<◌, List, IfErr, IfOk, IfSome};
+ghost use mathlib.Core.List.{IsPrefix};
 ghost use Rattle.group_cell.specs.Rule.{IsIn};
 ghost use Rattle.group_cell.specs.Seats.{opened_with, the_group};
 ghost use Rattle.group_search.specs.Owned.{IsOwned};
 ghost use Rattle.group_search.specs.declared.published.Publication.{Publication};
-ghost use Rattle.group_search.specs.Published.{Extends};
 ghost use Rattle.hash_family.specs.Hash as hash;
 ghost use Rattle.replica_shard.specs.Owners.{cell_of};
 ghost use Rattle.replica_shard.specs.Seats.{FindsChange, HasRouted, IsShardReaderOf, IsShardWriterOf, first_loads, seen_list, shard_at, shard_seen, shard_taken, taken_list};
@@ -29,7 +29,7 @@ impl Shard {
         requires reader { IsShardReaderOf self.now reader.old }
         requires owned { IsOwned self.now.shape self.now.owner key }
         ensures reader { IsShardReaderOf self.now reader.new }
-        ensures later { Extends (seen_list self.now reader.old) (seen_list self.now reader.new) }
+        ensures later { IsPrefix (seen_list self.now reader.old) (seen_list self.now reader.new) }
         ensures looks { first_loads reader.new ≡ first_loads reader.old + 1 }
         ensures answer { IfOk result (λ route. route ≡ route_in_state (shard_state_of (shard_seen self.now reader.new)) (hash.place self.now.shape.blocks key) key) }
         ensures in_cluster { IfOk result (λ route. IfSome route.node (λ node. node < self.now.shape.nodes)) }
@@ -54,7 +54,7 @@ impl Shard {
         requires owned { at.block % self.now.shape.nodes ≡ self.now.owner }
         requires within { at.block < self.now.shape.blocks }
         ensures reader { IsShardReaderOf self.now reader.new }
-        ensures later { Extends (seen_list self.now reader.old) (seen_list self.now reader.new) }
+        ensures later { IsPrefix (seen_list self.now reader.old) (seen_list self.now reader.new) }
         ensures looks { first_loads reader.new ≡ first_loads reader.old + 1 }
         ensures answer { IfOk result (λ route. route ≡ route_in_state (shard_state_of (shard_seen self.now reader.new)) at key) }
         ensures in_cluster { IfOk result (λ route. IfSome route.node (λ node. node < self.now.shape.nodes)) }

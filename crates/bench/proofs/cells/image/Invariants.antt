@@ -2,7 +2,7 @@ use Rattle.std.proofs.Common.{◌≡◌}
 use Rattle.std.specs.Prelude.{All, sum_by, length}
 use Rattle.group_search.specs.Canon.{rows_in}
 use Rattle.group_search.specs.Words.{HasBits}
-use Rattle.group_cell.specs.Rule.{HasNodes}
+use Rattle.group_search.specs.Records.{HasNodes}
 use Rattle.bench.proofs.cells.image.Given as goal
 
 abbrev pub invariant-records : goal.invariant-records

@@ -1,7 +1,7 @@
 -- What the FIBs have so far, with what the flows left add, is what all flows add.
 use Rattle.std.proofs.Common.{◌≡◌, ◌<◌, ◌++◌, [], length, drop, get_or, ℕ}
 use Rattle.flow_types.specs.declared.record.Flow.{Flow}
-use Rattle.delta_codec.specs.Values.{IsKeyValue}
+use Rattle.flow_types.specs.Key.{IsKeyValue}
 use Rattle.cluster_open.specs.Dealing.{own_flows}
 use Rattle.cluster_open.proofs.dealing.deal.Given as goal
 

@@ -1,6 +1,6 @@
 -- The owners so far.
 use Rattle.std.proofs.Common.{◌≡◌, ◌<◌, [], ℕ, length, get_or}
-use Rattle.turn_sender.specs.Sender.{IsSenderOf, SenderState, changes_in}
+use Rattle.turn_log.specs.Sender.{IsSenderOf, SenderState, changes_in}
 use Rattle.cluster_open.proofs.opening.owners.Given as goal
 
 abbrev pub invariant-numbers : goal.invariant-numbers

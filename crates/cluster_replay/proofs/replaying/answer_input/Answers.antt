@@ -1,8 +1,8 @@
 use Rattle.std.proofs.Common.{◌≡◌, ◌∙◌, ◌+◌, ◌<◌, ◌^◌, All, List, Ok, Result, length, ap, arith, rules, subst, sym}
 use Rattle.packet_reader.specs.declared.mode.Mode.TheVariants.{Replay}
 use Rattle.packet_reader.specs.Form.{IsFormed}
-use Rattle.replay_model.specs.Replaying.{replayed_with_updates, replies_from}
-use Rattle.replay_model.specs.declared.reply.Reply.{Reply}
+use Rattle.run_model.specs.Replaying.{replayed_with_updates, replies_from}
+use Rattle.run_model.specs.declared.reply.Reply.{Reply}
 use Rattle.run_report.specs.Report.{AreOfTheirEvents}
 use Rattle.cluster_open.specs.declared.fault.InputFault.{InputFault}
 use Rattle.cluster_open.specs.Limits.{named_fault}

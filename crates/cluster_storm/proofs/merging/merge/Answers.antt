@@ -3,7 +3,7 @@ use Rattle.std.proofs.Common.{◌+◌, ◌≤◌, ℕ, List, length, drop, get_o
 use Rattle.std.proofs.lemmas.List.{drop_all}
 use Rattle.packet_reader.specs.declared.event.Event.{Event}
 use Rattle.packet_reader.specs.declared.event.Event.TheVariants.{Set}
-use Rattle.replay_model.specs.declared.reply.Reply.{Reply}
+use Rattle.run_model.specs.declared.reply.Reply.{Reply}
 use Rattle.storm_model.specs.Merging.{CanMerge, TakesOne, queues_of}
 use Rattle.cluster_storm.proofs.Merges.{MergesSoFar, dropped, merges-all, merges-first, merges-one}
 use Rattle.cluster_storm.proofs.merging.merge.Goals as goal

@@ -1,8 +1,8 @@
 -- One phase after the other.
 use Rattle.std.proofs.Common.{◌≡◌, List, length, rules, subst, sym}
 use Rattle.std.specs.Prelude.{All}
-use Rattle.replay_model.specs.declared.reply.Reply.{Reply}
-use Rattle.replay_model.specs.Laws.{IsRow}
+use Rattle.run_model.specs.declared.reply.Reply.{Reply}
+use Rattle.run_model.specs.Laws.{IsRow}
 use Rattle.storm_model.specs.Phase.{BreaksOff}
 use Rattle.storm_model.specs.Storm.{IsNoCarry}
 use Rattle.cluster_storm.specs.Rest.{AreLinkedFor, opening_of, state_of}

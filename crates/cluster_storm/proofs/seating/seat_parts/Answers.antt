@@ -5,7 +5,7 @@ use Rattle.replica_shard.specs.Shard.{shard_after}
 use Rattle.replica_shard.specs.Store.{ShardStore, shard_state_of}
 use Rattle.partial_fib.specs.Fib.{fib_after}
 use Rattle.partial_fib.specs.Store.{FibStore, state_of}
-use Rattle.storm_model.specs.Lists.{owners_in}
+use Rattle.flow_types.specs.Size.{owners_in}
 use Rattle.storm_lane.specs.declared.readers.OwnerReaders.{OwnerReaders}
 use Rattle.turn_relay.specs.Each.{AllFrom, Every}
 use Rattle.turn_relay.specs.Linking.{IsFresh}
@@ -22,7 +22,7 @@ owners-init g c =
     let tables = all-from-numbers shard_state_of (λ (owner : ℕ). shard_after shape owner flows []) 0 (owners_in shape) c.args.node.tables.items c.requires.node.tables in
     let fibs = all-from-numbers state_of (λ (owner : ℕ). fib_after shape node owner flows []) 0 (owners_in shape) c.args.node.fibs.items c.requires.node.fibs in
     let none = c.in_ok-parts.ensures.items in
-    let owners : c.min-owners.result ≡ owners_in shape = search rules in
+    let owners : c.owners-owners.result ≡ owners_in shape = c.owners-owners.ensures.value in
     let tables_many = tables.1 in
     let fibs_many = fibs.1 in
     record {

@@ -6,7 +6,7 @@ use Rattle.replica_shard.specs.Shard.{shard_after}
 use Rattle.replica_shard.specs.Store.{ShardStore, shard_state_of}
 use Rattle.partial_fib.specs.Fib.{fib_after}
 use Rattle.partial_fib.specs.Store.{FibStore, state_of}
-use Rattle.storm_model.specs.Lists.{owners_in}
+use Rattle.flow_types.specs.Size.{owners_in}
 use Rattle.turn_relay.specs.Each.{AllFrom, Every}
 use Rattle.turn_relay.specs.Linking.{IsFresh}
 use Rattle.turn_relay.specs.PartState.{PartState}

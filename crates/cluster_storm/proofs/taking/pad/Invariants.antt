@@ -1,4 +1,4 @@
--- So far there are so many queues, which say what there was.
+-- So far there are no more queues than there shall be, and they say what there was.
 use Rattle.std.proofs.Common.{◌≡◌, ℕ, length}
 use Rattle.storm_model.specs.Merging.{queues_of}
 use Rattle.cluster_storm.proofs.taking.pad.Given as goal

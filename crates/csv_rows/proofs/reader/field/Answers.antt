@@ -5,7 +5,7 @@ use Rattle.csv_rows.proofs.ReadingFacts.{field_at-none}
 use Rattle.csv_rows.proofs.reader.field.Goals as goal
 
 pub returns-in-None : goal.returns-in-None
-returns-in-None c = sym (field_at-none (fields_of c.args.row.now) c.args.place (sym c.in-None.ensures.value))
+returns-in-None c = sym (field_at-none (fields_of c.args.row.now) c.args.number (sym c.in-None.ensures.value))
 
 pub returns-in-Some : goal.returns-in-Some
-returns-in-Some c = sym (field-get (fields_of c.args.row.now) c.args.place c.in-Some.field.now (sym c.in-Some.ensures.value))
+returns-in-Some c = sym (field-get (fields_of c.args.row.now) c.args.number c.in-Some.field.now (sym c.in-Some.ensures.value))

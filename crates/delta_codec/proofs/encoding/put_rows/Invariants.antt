@@ -3,7 +3,7 @@ use Rattle.std.specs.List.{flat_map}
 use Rattle.arrayvec.specs.ArrayVec.{array_vec_len}
 use Rattle.delta_codec.specs.Spelling.{row_octets}
 use Rattle.group_search.specs.declared.rows.Row.{Row}
-use Rattle.delta_codec.specs.Values.{IsKeyValue}
+use Rattle.flow_types.specs.Key.{IsKeyValue}
 use Rattle.delta_codec.proofs.encoding.put_rows.Given as goal
 
 -- the octets of the rows passed so far, whose numbers are within their fields

@@ -1,6 +1,6 @@
 use Rattle.std.proofs.Common.{ap, sym, ◌∙◌, arith}
 use Rattle.delta_codec.specs.Fields.{number_of}
-use Rattle.delta_codec.specs.Values.{IsKeyValue}
+use Rattle.flow_types.specs.Key.{IsKeyValue}
 use Rattle.delta_codec.proofs.Keys.{octets-number}
 use Rattle.delta_codec.proofs.reading.take_key.Goals as goal
 

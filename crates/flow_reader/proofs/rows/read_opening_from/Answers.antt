@@ -2,7 +2,7 @@ use Rattle.std.proofs.Common.{◌≤◌, arith, rules}
 use Rattle.csv_rows.specs.Reading.{rows_left}
 use Rattle.csv_rows.specs.Rows.{fields_of}
 use Rattle.flow_reader.proofs.FirstBadFacts.{is-opening}
-use Rattle.flow_reader.proofs.FlowFacts.{opening-fits}
+use Rattle.flow_reader.proofs.FlowFacts.{opening_fits}
 use Rattle.flow_reader.proofs.OpeningFacts.{left_after}
 use Rattle.flow_reader.proofs.rows.read_opening_from.Goals as goal
 
@@ -10,7 +10,7 @@ pub returns-clause-opening : goal.returns-clause-opening
 returns-clause-opening c = is-opening _ _ (search rules)
 
 pub returns-clause-fit : goal.returns-clause-fit
-returns-clause-fit c = opening-fits _ _ (is-opening _ _ (search rules))
+returns-clause-fit c = opening_fits _ _ (is-opening _ _ (search rules))
 
 pub returns-clause-left : goal.returns-clause-left
 returns-clause-left c =

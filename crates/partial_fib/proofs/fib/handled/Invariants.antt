@@ -1,6 +1,6 @@
 use Rattle.std.proofs.Common.{ℕ, ◌<◌, get_or}
 use Rattle.flow_types.specs.declared.record.Flow.{Flow}
-use Rattle.delta_codec.specs.Values.{IsKeyValue}
+use Rattle.flow_types.specs.Key.{IsKeyValue}
 use Rattle.partial_fib.specs.Fib.{is_handled_of}
 use Rattle.partial_fib.specs.Store.{record_among}
 use Rattle.partial_fib.proofs.Handled.{IsFilled}

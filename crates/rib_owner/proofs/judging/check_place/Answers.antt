@@ -1,7 +1,7 @@
 use Rattle.std.proofs.Common.{◌≡◌, ◌∙◌, true, false, is_some, ap, sym}
 use Rattle.flow_types.specs.Map.{flow_at}
-use Rattle.rib_owner.specs.declared.update.Update.{Update}
-use Rattle.rib_owner.specs.Acceptance.{updated_key}
+use Rattle.group_history.specs.declared.update.Update.{Update}
+use Rattle.group_history.specs.Acceptance.{updated_key}
 use Rattle.rib_owner.specs.Rib.{map_in}
 use Rattle.rib_owner.specs.Stock.{part_in}
 use Rattle.rib_owner.proofs.Judged.{place_absent, place_full, place_known, place_new}

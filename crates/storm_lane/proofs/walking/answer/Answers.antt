@@ -1,8 +1,7 @@
 -- The readers of the key's owner answer.
 use Rattle.std.proofs.Common.{◌≡◌, ◌∙◌, ◌<◌, ℕ, Some, sym, subst, get_or}
 use Rattle.std.specs.List.{slice_get}
-use Rattle.flow_types.specs.Size.{Size}
-use Rattle.storm_model.specs.Lists.{owners_in}
+use Rattle.flow_types.specs.Size.{Size, owners_in}
 use Rattle.storm_lane.specs.Readers.{ReadersState}
 use Rattle.storm_lane.proofs.LanesSeen.{it-owns, its-nodes, its-size, lane-later, lane-says, lane-seats, owner-low, there, within}
 use Rattle.storm_lane.proofs.walking.answer.Given as given

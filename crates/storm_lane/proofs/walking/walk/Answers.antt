@@ -3,7 +3,7 @@ use Rattle.std.proofs.Common.{◌∙◌, ◌+◌, ◌≤◌, ℕ, List, drop, ge
 use Rattle.std.proofs.lemmas.List.{drop_all}
 use Rattle.packet_reader.specs.declared.event.Event.{Event}
 use Rattle.packet_reader.specs.declared.event.Event.TheVariants.{Set}
-use Rattle.replay_model.specs.declared.reply.Reply.{Reply}
+use Rattle.run_model.specs.declared.reply.Reply.{Reply}
 use Rattle.storm_lane.specs.Lane.{all_seats, lists_of, parts_of}
 use Rattle.storm_lane.specs.Readers.{Seats}
 use Rattle.storm_lane.specs.Stepping.{TakesStep, WalksSoFar}

@@ -6,5 +6,5 @@ pub load-requires : goal.load-requires
 load-requires c = (
   c.requires.own,
   subst (λ (words : ℕ). c.args.node < words) (sym c.requires.wide) c.requires.inside,
-  loads_total _ _ _ c.args.place.now.me c.requires.live.live _ c.requires.inside,
+  loads_total _ _ _ c.args.inner.now.me c.requires.live.live _ c.requires.inside,
 )

@@ -1,6 +1,7 @@
 use Rattle.std.proofs.Common.{◌≡◌, ◌∙◌, ◌+◌, ◌<◌, ◌≤◌, ℕ, length, sym, ap, subst, arith}
-use Rattle.replay_model.specs.Carrying.{turns_taken}
-use Rattle.replay_model.specs.State.{journal_of, owners_in}
+use Rattle.run_model.specs.Carrying.{turns_taken}
+use Rattle.flow_types.specs.Size.{owners_in}
+use Rattle.run_model.specs.State.{journal_of}
 use Rattle.cluster_replay.specs.Cluster.{RunState}
 use Rattle.cluster_replay.specs.Turn.{with_turns}
 use Rattle.cluster_replay.proofs.BroughtUp.{first_turns, next_turns, then_taken}
@@ -29,13 +30,17 @@ tell-requires-clause-next c =
 pub turns-preserved : goal.turns-preserved
 turns-preserved c = record {
   at =
-      c.in_ok-tell.ensures ∙ ap (with_turns c.args.part c.args.owner (c.turns.turn + 1)) c.turns.invariant.at
+      c.in_ok-tell.ensures.told ∙ ap (with_turns c.args.part c.args.owner (c.turns.turn + 1)) c.turns.invariant.at
       ∙ next_turns c.args.self.now c.least_taken-taken.ensures.sized c.args.part c.args.owner c.requires c.turns.turn;
   within = omega (arith, c.turns-test.true);
 }
 
 pub returns : goal.returns
 returns c =
-    c.turns.invariant.at
-    ∙ ap (λ (turn : ℕ). with_turns c.args.part c.args.owner turn c.args.self.now)
-    (let all : c.turns.turn ≡ length (journal_of c.args.self.now.cluster.journals c.args.owner) = omega (arith, c.turns.invariant.within, c.turns-test.false, c.sent_turns-sent.ensures) in all)
+    record {
+      told =
+          c.turns.invariant.at
+          ∙ ap (λ (turn : ℕ). with_turns c.args.part c.args.owner turn c.args.self.now)
+          (let all : c.turns.turn ≡ length (journal_of c.args.self.now.cluster.journals c.args.owner) = omega (arith, c.turns.invariant.within, c.turns-test.false, c.sent_turns-sent.ensures) in all);
+      stays = tt;
+    }

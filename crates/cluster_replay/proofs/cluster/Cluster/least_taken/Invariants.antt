@@ -1,6 +1,6 @@
 use Rattle.std.proofs.Common.{◌<◌, ◌≤◌, ℕ, length}
-use Rattle.replay_model.specs.Carrying.{turns_taken}
-use Rattle.replay_model.specs.State.{journal_of}
+use Rattle.run_model.specs.Carrying.{turns_taken}
+use Rattle.run_model.specs.State.{journal_of}
 use Rattle.cluster_replay.proofs.cluster.Cluster.least_taken.Given as goal
 
 abbrev pub invariant-nodes : goal.invariant-nodes

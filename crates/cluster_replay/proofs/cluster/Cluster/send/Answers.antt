@@ -1,6 +1,6 @@
 use Rattle.std.proofs.Common.{◌≡◌, ◌∙◌, ◌<◌, ℕ, List, length, map, get_or, set, sym, ap, subst, arith, rules}
 use Rattle.std.proofs.lemmas.List.{set-get_or}
-use Rattle.delta_codec.specs.Values.{IsKeyValue}
+use Rattle.flow_types.specs.Key.{IsKeyValue}
 use Rattle.cluster_replay.specs.Cluster.{IsCluster, NodeStore, node_state_of}
 use Rattle.cluster_replay.proofs.HeldRouting.{fib_index, find_owned, find_within, ingress_index, nowhere, owned, reply, shard_index, to_index, within}
 use Rattle.cluster_replay.proofs.cluster.Cluster.send.Goals as goal

@@ -1,5 +1,5 @@
 use Rattle.std.proofs.Common.{◌≤◌}
-use Rattle.replay_model.specs.State.{owners_in}
+use Rattle.flow_types.specs.Size.{owners_in}
 use Rattle.cluster_replay.proofs.BroughtUp.{AreBroughtUp}
 use Rattle.cluster_replay.proofs.cluster.Cluster.sync.Given as goal
 

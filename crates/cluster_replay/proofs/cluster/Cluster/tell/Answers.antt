@@ -1,6 +1,6 @@
 use Rattle.std.proofs.Common.{◌+◌, ◌<◌, ◌≤◌, ℕ, subst}
 use Rattle.packet_reader.specs.declared.event.Part.{Part}
-use Rattle.replay_model.specs.Carrying.{turns_taken}
+use Rattle.run_model.specs.Carrying.{turns_taken}
 use Rattle.cluster_replay.proofs.cluster.Cluster.tell.Goals as goal
 
 pub tell_tables-requires-clause-next : goal.tell_tables-requires-clause-next

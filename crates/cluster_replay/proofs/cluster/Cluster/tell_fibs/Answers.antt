@@ -1,6 +1,7 @@
 use Rattle.std.proofs.Common.{◌≡◌, ◌<◌, ◌≤◌, ℕ, length, sym, subst, arith}
 use Rattle.packet_reader.specs.declared.event.Part.TheVariants.{Fib}
-use Rattle.replay_model.specs.State.{journal_of, owners_in}
+use Rattle.flow_types.specs.Size.{owners_in}
+use Rattle.run_model.specs.State.{journal_of}
 use Rattle.cluster_replay.specs.Cluster.{RunState}
 use Rattle.cluster_replay.specs.Turn.{with_turn}
 use Rattle.cluster_replay.proofs.BroughtUp.{AreRaised, all_raised, none_raised, one_more_told}
@@ -36,4 +37,4 @@ returns c =
     let run = c.args.self.now in
     let sized = c.node_count-node-end.ensures.sized in
     let all : c.nodes.node ≡ length run.cluster.nodes = omega (arith, c.nodes.invariant.within, c.nodes-test.false, c.node_count-node-end.ensures.count, sized.nodes_many) in
-    all_raised run (with_turn Fib c.args.owner c.args.turn) c.nodes.self (subst (λ (n : ℕ). AreRaised run (with_turn Fib c.args.owner c.args.turn) n c.nodes.self) all c.nodes.invariant.told)
+    record { told = all_raised run (with_turn Fib c.args.owner c.args.turn) c.nodes.self (subst (λ (n : ℕ). AreRaised run (with_turn Fib c.args.owner c.args.turn) n c.nodes.self) all c.nodes.invariant.told); stays = tt }

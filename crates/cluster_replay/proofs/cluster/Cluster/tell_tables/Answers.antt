@@ -1,6 +1,7 @@
 use Rattle.std.proofs.Common.{◌≡◌, ◌<◌, ◌≤◌, ℕ, length, sym, subst, arith}
 use Rattle.packet_reader.specs.declared.event.Part.TheVariants.{Table}
-use Rattle.replay_model.specs.State.{journal_of, owners_in}
+use Rattle.flow_types.specs.Size.{owners_in}
+use Rattle.run_model.specs.State.{journal_of}
 use Rattle.cluster_replay.specs.Cluster.{RunState}
 use Rattle.cluster_replay.specs.Turn.{IsTurnsTableMessage, with_turn}
 use Rattle.cluster_replay.proofs.BroughtUp.{AreRaised, all_raised, none_raised, one_more_told}

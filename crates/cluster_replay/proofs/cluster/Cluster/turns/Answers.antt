@@ -1,6 +1,6 @@
 use Rattle.std.proofs.Common.{◌≡◌, ◌∙◌, ◌<◌, length, get_or, sym, ap, subst, arith}
 use Rattle.packet_reader.specs.declared.event.Part.{Part}
-use Rattle.replay_model.specs.Carrying.{turns_taken}
+use Rattle.run_model.specs.Carrying.{turns_taken}
 use Rattle.cluster_replay.specs.Cluster.{NodeStore}
 use Rattle.cluster_replay.proofs.Sized.{fib_index, fib_taken, fib_within, shard_index, shard_taken, shard_within, node_index, sized}
 use Rattle.cluster_replay.proofs.cluster.Cluster.turns.Goals as goal

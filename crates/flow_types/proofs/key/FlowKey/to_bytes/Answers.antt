@@ -1,10 +1,11 @@
 use Rattle.std.proofs.Common.{sym, arith}
-use Rattle.flow_types.proofs.Octets.{HasFields, octets_are}
+use Rattle.flow_types.specs.Key.{IsKeyValue}
+use Rattle.flow_types.proofs.Octets.{octets_are}
 use Rattle.flow_types.proofs.key.FlowKey.to_bytes.Goals as goal
 
 pub returns : goal.returns
 returns c =
-    let fits : HasFields c.args.self.now = record {
+    let fits : IsKeyValue c.args.self.now = record {
       source = omega arith;
       destination = omega arith;
       source_port = omega arith;

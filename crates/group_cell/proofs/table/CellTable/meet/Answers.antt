@@ -1,6 +1,6 @@
 use Rattle.std.proofs.Common.{arith, ◌≡◌, ℕ, zero, [], refl, sym, ap, ◌∙◌, subst}
+use mathlib.Core.List.{IsPrefix}
 use Rattle.atomic_table.specs.Table.{Me}
-use Rattle.group_search.specs.Published.{Extends}
 use Rattle.group_cell.specs.declared.view.View.{View}
 use Rattle.group_cell.specs.declared.view.View.TheVariants.{Writer, Reader}
 use Rattle.group_cell.specs.declared.view.WriterView.{WriterView}
@@ -67,7 +67,7 @@ join_seat-requires-2 c = let wide = c.args.self.now.wide in let some = c.args.se
     )
 
 -- what the writer learned at its load
-learned : (R W : View) (reads : IsReader R) (writes : IsWriter W) (m : M) (n : View) → m ≡ (given_by R, []) → n ≡ met_by W m.0 → Stands (writer_view n) → Extends (reader_view R).seen (writer_view W).published
+learned : (R W : View) (reads : IsReader R) (writes : IsWriter W) (m : M) (n : View) → m ≡ (given_by R, []) → n ≡ met_by W m.0 → Stands (writer_view n) → IsPrefix (reader_view R).seen (writer_view W).published
 learned R W reads writes m n e f stands = (subst (λ (v : View). Stands (writer_view v)) (heard R W reads writes m n e f) stands).heard zero (reader_view R).seen refl
 
 pub returns-clause-before : goal.returns-clause-before

@@ -14,6 +14,7 @@ use Rattle.group_cell.specs.Seating.{AreOwners, places_of}
 use Rattle.group_cell.proofs.Laid.{bare_on, laid_on, length_zeros, zero_bare, zero_free, zero_owners}
 use Rattle.group_cell.proofs.table.laying.lay_block.Invariants.{LaidBelow}
 use Rattle.group_cell.proofs.table.laying.lay_block.Goals as goal
+use Rattle.group_cell.specs.Layout.{block_words}
 
 -- one more group is laid
 more_laid : (image : Image) (group : ℕ) (words words' owners owners' : List ℕ) (content : GroupRecord) → LaidBelow image group words owners → group < 64 → group < length image.records → get_or image.records group (Served []) ≡ content
@@ -33,7 +34,7 @@ more_laid image group words words' owners owners' content v few inside is owned 
 
 pub groups-init : goal.groups-init
 groups-init c = record {
-  width = length_zeros 320;
+  width = length_zeros block_words;
   all = omega arith;
   owners_of = zero_owners _ _ refl refl;
   laid = λ h less. absurd (omega arith);

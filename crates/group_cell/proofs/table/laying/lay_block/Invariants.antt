@@ -6,10 +6,11 @@ use Rattle.group_search.specs.Published.{opening_record}
 use Rattle.group_cell.specs.Laying.{IsBare, IsLaid, in_front}
 use Rattle.group_cell.specs.Seating.{AreOwners, places_of}
 use Rattle.group_cell.proofs.table.laying.lay_block.Given as goal
+use Rattle.group_cell.specs.Layout.{block_words}
 
 -- the groups below this one are laid, and the others have no places
 pub record LaidBelow (image : Image) (group : ℕ) (words owners : List ℕ) : Type 0 where
-  pub width : length words ≡ 320
+  pub width : length words ≡ block_words
   pub all : group ≤ length image.records
   pub owners_of : AreOwners owners words 0
   pub laid : (h : ℕ) → h < group → IsLaid words owners (in_front h) (opening_record (image ∷ []) (in_front h))

@@ -3,11 +3,11 @@ use Rattle.group_search.specs.declared.rows.Row.{Row}
 use Rattle.group_search.specs.Home.{Home}
 use Rattle.group_cell.specs.Layout.{home_of}
 use Rattle.group_cell.specs.Rule.{RowsStand}
-use Rattle.group_cell.specs.Seating.{Place, AreOwners, IsInWriting, Rewrites, places_of, words_of_seat}
+use Rattle.group_cell.specs.Seating.{CellSeat, AreOwners, IsInWriting, Rewrites, places_of, words_of_seat}
 use Rattle.group_cell.proofs.table.placing.lay_rows.Given as goal
 
 -- the rows so far stand in places
-pub record Laid (before now : Place) (at : Home) (count : ℕ) (rows : List Row) (owners_before owners_now : List ℕ) : Type 0 where
+pub record Laid (before now : CellSeat) (at : Home) (count : ℕ) (rows : List Row) (owners_before owners_now : List ℕ) : Type 0 where
   pub owners : AreOwners owners_now (words_of_seat now) at.block
   pub rewrites : Rewrites at.block before now
   pub writing : IsInWriting now at

@@ -3,7 +3,7 @@ use mathlib.Core.Logic.{dite}
 use native.Mathlib.Decide.{ℕ_discrete}
 use Rattle.group_search.specs.Home.{Home}
 use Rattle.group_cell.specs.Layout.{home_of}
-use Rattle.group_cell.specs.Seating.{Place, AreOwners, Rewrites, places_of, words_of_seat}
+use Rattle.group_cell.specs.Seating.{CellSeat, AreOwners, Rewrites, places_of, words_of_seat}
 use Rattle.group_cell.proofs.Placing.{none_left, no_rows, places_kept, places_lost, places_gained}
 use Rattle.group_cell.proofs.Rewriting.{rewrites-self, rewrites-trans, writing_on}
 use Rattle.group_cell.proofs.table.placing.vacate.Invariants.{Vacated}
@@ -21,7 +21,7 @@ places-init c = record {
 }
 
 -- a place that isn't the group's stays
-skipped : (before now : Place) (at : Home) (place : ℕ) (owners_before owners_now : List ℕ) → Vacated before now at place owners_before owners_now → get_or owners_now place 0 ≢ at.group + 1 → Vacated before now at (place + 1) owners_before owners_now
+skipped : (before now : CellSeat) (at : Home) (place : ℕ) (owners_before owners_now : List ℕ) → Vacated before now at place owners_before owners_now → get_or owners_now place 0 ≢ at.group + 1 → Vacated before now at (place + 1) owners_before owners_now
 skipped before now at place owners_before owners_now v other = record {
   owners = v.owners;
   rewrites = v.rewrites;
@@ -32,7 +32,7 @@ skipped before now at place owners_before owners_now v other = record {
 }
 
 -- a place of the group is freed
-freed : (before now after : Place) (at : Home) (place : ℕ) (owners_before owners_now : List ℕ) → Vacated before now at place owners_before owners_now → place < 64 → get_or owners_now place 0 ≡ at.group + 1
+freed : (before now after : CellSeat) (at : Home) (place : ℕ) (owners_before owners_now : List ℕ) → Vacated before now at place owners_before owners_now → place < 64 → get_or owners_now place 0 ≡ at.group + 1
     → AreOwners (set owners_now place 0) (words_of_seat after) at.block → Rewrites at.block now after → Vacated before after at (place + 1) owners_before (set owners_now place 0)
 freed before now after at place owners_before owners_now v less mine owned rewrites = let all = v.owners.all in
     let a = places_lost (at.group + 1) 0 place owners_now (omega arith) mine (λ e. omega arith) in
@@ -50,9 +50,9 @@ freed before now after at place owners_before owners_now v less mine owned rewri
 pub places-preserved : goal.places-preserved
 places-preserved c = let at = home_of c.args.at in let before = c.args.seat.now in let now = c.places.seat in let place : ℕ = c.places.place in let o0 = c.args.owners.now in let o = c.places.owners in let less = c.places-test.true in
     elim c.if-owners-place.branch [
-      | then-owners-place w ↦ subst (λ (x : Place × List ℕ). Vacated before x.0 at (place + 1) o0 x.1) (λ i. (sym w.seat-is i, sym (w.owners-is ∙ w.release.ensures.freed) i))
+      | then-owners-place w ↦ subst (λ (x : CellSeat × List ℕ). Vacated before x.0 at (place + 1) o0 x.1) (λ i. (sym w.seat-is i, sym (w.owners-is ∙ w.release.ensures.freed) i))
           (freed before now w.release.new.seat at place o0 o c.places.invariant less w.if-owners-place.true (subst (λ (os : List ℕ). AreOwners os (words_of_seat w.release.new.seat) c.args.at.block) w.release.ensures.freed w.release.ensures.owners) w.release.ensures.rewrites)
-      | else-owners-place w ↦ subst (λ (x : Place × List ℕ). Vacated before x.0 at (place + 1) o0 x.1) (λ i. (sym w.seat-is i, sym w.owners-is i)) (skipped before now at place o0 o c.places.invariant w.if-owners-place.false)
+      | else-owners-place w ↦ subst (λ (x : CellSeat × List ℕ). Vacated before x.0 at (place + 1) o0 x.1) (λ i. (sym w.seat-is i, sym w.owners-is i)) (skipped before now at place o0 o c.places.invariant w.if-owners-place.false)
     ]
 
 pub returns-clause-mine : goal.returns-clause-mine

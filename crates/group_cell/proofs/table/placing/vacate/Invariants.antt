@@ -1,11 +1,11 @@
 use Rattle.std.proofs.Common.{◌≡◌, ◌≢◌, ℕ, ◌+◌, ◌<◌, List, slice_index}
 use Rattle.group_search.specs.Home.{Home}
 use Rattle.group_cell.specs.Layout.{home_of}
-use Rattle.group_cell.specs.Seating.{Place, AreOwners, IsInWriting, Rewrites, places_of, words_of_seat}
+use Rattle.group_cell.specs.Seating.{CellSeat, AreOwners, IsInWriting, Rewrites, places_of, words_of_seat}
 use Rattle.group_cell.proofs.table.placing.vacate.Given as goal
 
 -- the places so far aren't the group's
-pub record Vacated (before now : Place) (at : Home) (place : ℕ) (owners_before owners_now : List ℕ) : Type 0 where
+pub record Vacated (before now : CellSeat) (at : Home) (place : ℕ) (owners_before owners_now : List ℕ) : Type 0 where
   pub owners : AreOwners owners_now (words_of_seat now) at.block
   pub rewrites : Rewrites at.block before now
   pub writing : IsInWriting now at

@@ -1,7 +1,7 @@
 use Rattle.std.proofs.Common.{◌∙◌, ap, subst, List}
 use mathlib.Core.List.{IsPrefix}
 use Rattle.delta_codec.specs.declared.message.FibMessage.{FibMessage}
-use Rattle.partial_fib.proofs.Prefixes.{prefix_same}
+use Rattle.flow_types.proofs.Prefixes.{prefix_same}
 use Rattle.partial_fib.proofs.sharing.telling.agree.Goals as goal
 
 pub returns : goal.returns

@@ -1,6 +1,6 @@
 use Rattle.std.proofs.Common.{◌∙◌, ◌++◌, ◌∷◌, [], sym, ap, subst}
 use Rattle.partial_fib.specs.declared.sharing.shown.Shown.{Shown}
-use Rattle.partial_fib.specs.Message.{FibMessageFits}
+use Rattle.delta_codec.specs.Messages.{FibMessageFits}
 use Rattle.partial_fib.proofs.Keeping.{IsNext, steps}
 use Rattle.partial_fib.proofs.sharing.writer.showing.Goals as goal
 

@@ -1,17 +1,17 @@
-use Rattle.std.proofs.Common.{ℕ, ◌∙◌, ◌*◌, List, map, ap, subst}
+use Rattle.std.proofs.Common.{ℕ, ◌∙◌, ◌*◌, List, map, ap, subst, sym}
 use Rattle.std.proofs.lemmas.List.{map-append}
+use mathlib.Core.List.{IsPrefix}
 use Rattle.group_search.specs.declared.published.Publication.{Publication}
 use Rattle.group_search.specs.Home.{Home}
-use Rattle.group_search.specs.Published.{Extends}
 use Rattle.group_cell.specs.Seats.{Changes, HasLooked, opened_with, seen, the_group}
 use Rattle.replica_shard.specs.Owners.{in_cluster}
 use Rattle.replica_shard.proofs.Cells.{route_is}
 use Rattle.replica_shard.proofs.shard.Shard.route_at.Goals as goal
 
 -- a list goes on by the cluster's blocks as by the cells'
-goes_on : (nodes owner : ℕ) (short long : List Publication) → Extends short long → Extends (map (in_cluster nodes owner) short) (map (in_cluster nodes owner) long)
+goes_on : (nodes owner : ℕ) (short long : List Publication) → IsPrefix short long → IsPrefix (map (in_cluster nodes owner) short) (map (in_cluster nodes owner) long)
 goes_on nodes owner short long more =
-    (map (in_cluster nodes owner) more.0, ap (map (in_cluster nodes owner)) more.1 ∙ map-append (in_cluster nodes owner) short more.0)
+    (map (in_cluster nodes owner) more.0, sym (map-append (in_cluster nodes owner) short more.0) ∙ ap (map (in_cluster nodes owner)) more.1)
 
 pub returns-in-Ok-clause-later : goal.returns-in-Ok-clause-later
 returns-in-Ok-clause-later c =

@@ -1,19 +1,41 @@
-use Rattle.std.proofs.Common.{◌≡◌, ◌∙◌, ℕ, Option, Some, None, length, set, ap, subst, sym, arith}
-use Rattle.std.specs.Prelude.{IsPermutation}
+use Rattle.std.proofs.Common.{◌≡◌, ◌∙◌, ℕ, List, Option, Some, None, length, set, ap, subst, sym, arith}
+use Rattle.std.specs.Prelude.{IfSome, IsPermutation}
+use Rattle.std.specs.List.{slice_get}
 use Rattle.bucket_arena.specs.Arena.{item_count}
 use Rattle.flow_types.specs.declared.record.Record.{Record}
-use Rattle.flow_types.specs.Map.{without}
+use Rattle.flow_types.specs.declared.record.Flow.{Flow}
+use Rattle.flow_types.specs.Map.{flow_at, without}
 use Rattle.group_search.specs.Home.{group_of}
 use Rattle.group_history.specs.Change.{step, with_at}
-use Rattle.rib_owner.specs.Acceptance.{keys_in}
+use Rattle.group_history.specs.Acceptance.{keys_in}
 use Rattle.rib_owner.specs.Rib.{map_in}
-use Rattle.rib_owner.specs.Stock.{ArePlaced, Stock, part_in}
-use Rattle.rib_owner.proofs.BucketChanges.{map_stepped, maps_changed, put_removed}
+use Rattle.rib_owner.specs.declared.block.Found.{Found}
+use Rattle.rib_owner.specs.Stock.{ArePlaced, Stock, part_in, standing_in}
+use Rattle.rib_owner.proofs.BucketChanges.{found_in_group, map_stepped, maps_changed, put_removed, standing_there}
 use Rattle.rib_owner.proofs.Buckets.{in_bucket}
 use Rattle.rib_owner.proofs.DistinctKeys.{distinct_bucket}
 use Rattle.rib_owner.proofs.GroupMaps.{all_flows}
 use Rattle.rib_owner.proofs.block.OwnedBlock.change.Goals as goal
 use Rattle.rib_owner.proofs.block.OwnedBlock.change.Goals.{After-put, In_default}
+
+pub remove-requires-clause-flow : goal.remove-requires-clause-flow
+remove-requires-clause-flow c =
+    let each : length c.args.self.now.arena.buckets ≡ 256 = subst (λ (s : Stock). length s.arena.buckets ≡ 256) c.self.view_is c.self.invariant.one_list_each in
+    let placed : ArePlaced c.args.self.now.arena.buckets = subst (λ (s : Stock). ArePlaced s.arena.buckets) c.self.view_is c.self.invariant.placed in
+    let there : flow_at c.args.change.now.key (in_bucket c.args.self.now.arena.buckets c.args.bucket)
+    ≡ flow_at c.args.change.now.key (map_in (part_in c.args.self.now) (group_of c.args.self.now.choices c.args.bucket)) =
+    rw (← c.requires.bucket) (found_in_group c.args.self.now.choices c.args.self.now.arena.buckets (omega (arith, each)) placed c.args.change.now.key) in
+    c.requires.found.flow ∙ sym there
+    ∙ ap (λ (s : Stock). flow_at c.args.change.now.key (in_bucket s.arena.buckets c.args.bucket)) (sym c.set_rows.ensures)
+
+pub remove-requires-clause-place : goal.remove-requires-clause-place
+remove-requires-clause-place c =
+    let each : length c.args.self.now.arena.buckets ≡ 256 = subst (λ (s : Stock). length s.arena.buckets ≡ 256) c.self.view_is c.self.invariant.one_list_each in
+    let placed : ArePlaced c.args.self.now.arena.buckets = subst (λ (s : Stock). ArePlaced s.arena.buckets) c.self.view_is c.self.invariant.placed in
+    let there : standing_in (part_in c.args.self.now) (group_of c.args.self.now.choices c.args.bucket) c.args.bucket ≡ in_bucket c.args.self.now.arena.buckets c.args.bucket =
+    rw (← c.requires.bucket) (standing_there c.args.self.now.choices c.args.self.now.arena.buckets (omega (arith, each)) placed c.args.change.now.key) in
+    subst (λ (l : List Flow). IfSome c.args.found (λ (it : Found). slice_get l it.place ≡ Some it.flow))
+    (there ∙ ap (λ (s : Stock). in_bucket s.arena.buckets c.args.bucket) (sym c.set_rows.ensures)) c.requires.found.place
 
 pub remove-requires-clause-distinct : goal.remove-requires-clause-distinct
 remove-requires-clause-distinct c =

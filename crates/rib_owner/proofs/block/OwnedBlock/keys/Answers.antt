@@ -1,5 +1,5 @@
 use Rattle.std.proofs.Common.{◌∙◌, ap, sym}
-use Rattle.rib_owner.specs.Acceptance.{keys_in}
+use Rattle.group_history.specs.Acceptance.{keys_in}
 use Rattle.rib_owner.specs.Rib.{map_in}
 use Rattle.rib_owner.specs.Stock.{Stock, part_in}
 use Rattle.rib_owner.proofs.GroupMaps.{all_flows}

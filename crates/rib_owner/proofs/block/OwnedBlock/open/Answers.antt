@@ -8,7 +8,7 @@ use Rattle.group_search.specs.Canon.{rows_in}
 use Rattle.rib_owner.proofs.Counted.{no_flows, none_at_all, rows_are, used_more}
 use Rattle.rib_owner.specs.Stock.{bucket_for}
 use Rattle.rib_owner.proofs.Buckets.{in_bucket}
-use Rattle.rib_owner.proofs.Sums.{sum_from}
+use Rattle.group_search.proofs.Sums.{sum_from}
 use Rattle.rib_owner.proofs.block.OwnedBlock.open.Goals as goal
 
 pub groups-preserved : goal.groups-preserved

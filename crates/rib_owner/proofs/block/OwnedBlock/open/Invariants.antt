@@ -2,7 +2,7 @@ use Rattle.std.proofs.Common.{◌≡◌, ◌*◌, ◌<◌, ◌≤◌, ℕ, Some,
 use Rattle.std.specs.List.{slice_get}
 use Rattle.group_search.specs.declared.record.GroupRecord.{GroupRecord}
 use Rattle.group_search.specs.Canon.{rows_in}
-use Rattle.rib_owner.proofs.Sums.{sum_from}
+use Rattle.group_search.proofs.Sums.{sum_from}
 use Rattle.rib_owner.proofs.block.OwnedBlock.open.Given as goal
 
 abbrev pub invariant-groups : goal.invariant-groups

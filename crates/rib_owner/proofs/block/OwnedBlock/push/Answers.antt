@@ -2,7 +2,7 @@ use Rattle.std.proofs.Common.{◌≡◌, ◌∙◌, ◌++◌, ◌∷◌, [], Lis
 use Rattle.std.specs.List.{sum_by}
 use Rattle.bucket_arena.specs.Arena.{item_count}
 use Rattle.flow_types.specs.declared.record.Flow.{Flow}
-use Rattle.rib_owner.specs.Acceptance.{keys_in}
+use Rattle.group_history.specs.Acceptance.{keys_in}
 use Rattle.rib_owner.specs.Rib.{map_in}
 use Rattle.rib_owner.specs.Stock.{Stock, part_in}
 use Rattle.rib_owner.proofs.BucketChanges.{map_put, maps_changed}

@@ -3,8 +3,8 @@ use Rattle.std.proofs.Common.{◌≡◌, ◌∙◌, sym, ap, subst, Some}
 use Rattle.std.specs.Prelude.{slice_set}
 use Rattle.std.specs.List.{slice_get}
 use Rattle.group_search.specs.declared.published.Publication.{Publication}
-use Rattle.group_search.specs.Published.{Extends}
 use Rattle.std.proofs.Common.{List}
+use mathlib.Core.List.{IsPrefix}
 use Rattle.storm_lane.specs.Readers.{AreOthersAsBefore, HaveSeenMore, ReadersState, seats_of}
 use Rattle.storm_lane.proofs.OwnersSeen.{met-more, met-others, met-owners, met-records, met-seats, met-turns}
 use Rattle.storm_lane.proofs.readers.OwnerReaders.meet_node.Given as given
@@ -58,7 +58,7 @@ returns-clause-others g c =
 
 pub returns-clause-more : goal.returns-clause-more
 returns-clause-more g c =
-    let longer = subst (λ (ps : List Publication). Extends c.index_mut-view.result.now.list ps) (sym c.meet.ensures.all) c.meet.ensures.before in
+    let longer = subst (λ (ps : List Publication). IsPrefix c.index_mut-view.result.now.list ps) (sym c.meet.ensures.all) c.meet.ensures.before in
     subst (λ (r : ReadersState). HaveSeenMore r (after g c)) c.self.view_is
     (met-more (before g c) c.self.invariant c.args.node c.index_mut-view.result.now c.meet.new.self c.index_mut-view.ensures.value c.args.table.now.shard (table-there g c)
     c.index_mut.result.now c.told.new.reader c.index_mut.ensures.value c.args.fib.now.book (fib-there g c) c.meet.ensures.shard c.args.fib.now.turns c.told.ensures.told c.told.ensures.before longer)

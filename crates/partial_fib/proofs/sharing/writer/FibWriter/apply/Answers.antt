@@ -10,8 +10,8 @@ returns-in-Err-clause-foreign g c owner =
     let unspent = sym (ap (λ (w : WriterState). w.spent) c.self.view_is) ∙ c.if-self.false in
     let own = c.shown.ensures.owner in
     let says = c.in-Err.ensures.foreign owner in (
-      λ is. (unspent, λ same. (says.0 is).0 (same ∙ sym own), (says.0 is).1),
-      λ so. says.1 (λ same. so.1 (same ∙ own), so.2),
+      λ is. (unspent, (λ same. (says.0 is).0 (same ∙ sym own), (says.0 is).1)),
+      λ so. says.1 (λ same. so.1.0 (same ∙ own), so.1.1),
     )
 
 pub returns-in-Err-clause-repeat : goal.returns-in-Err-clause-repeat
@@ -21,8 +21,8 @@ returns-in-Err-clause-repeat g c have =
     let taken = c.shown.ensures.taken in
     let turn = c.args.message.now.turn in
     let says = c.in-Err.ensures.repeat have in (
-      λ is. let so = says.0 is in (unspent, so.0 ∙ own, subst (λ (n : ℕ). turn ≤ n) taken so.1, so.2 ∙ taken),
-      λ so. says.1 (so.1 ∙ sym own, subst (λ (n : ℕ). turn ≤ n) (sym taken) so.2, so.3 ∙ sym taken),
+      λ is. let so = says.0 is in (unspent, (so.0 ∙ own, subst (λ (n : ℕ). turn ≤ n) taken so.1, so.2 ∙ taken)),
+      λ so. says.1 (so.1.0 ∙ sym own, subst (λ (n : ℕ). turn ≤ n) (sym taken) so.1.1, so.1.2 ∙ sym taken),
     )
 
 pub returns-in-Err-clause-early : goal.returns-in-Err-clause-early
@@ -32,8 +32,8 @@ returns-in-Err-clause-early g c have =
     let taken = c.shown.ensures.taken in
     let turn = c.args.message.now.turn in
     let says = c.in-Err.ensures.early have in (
-      λ is. let so = says.0 is in (unspent, so.0 ∙ own, subst (λ (n : ℕ). n + 1 < turn) taken so.1, so.2 ∙ taken),
-      λ so. says.1 (so.1 ∙ sym own, subst (λ (n : ℕ). n + 1 < turn) (sym taken) so.2, so.3 ∙ sym taken),
+      λ is. let so = says.0 is in (unspent, (so.0 ∙ own, subst (λ (n : ℕ). n + 1 < turn) taken so.1, so.2 ∙ taken)),
+      λ so. says.1 (so.1.0 ∙ sym own, subst (λ (n : ℕ). n + 1 < turn) (sym taken) so.1.1, so.1.2 ∙ sym taken),
     )
 
 pub turned-pen-requires-clause-next : goal.turned-pen-requires-clause-next

@@ -1,0 +1,13 @@
+pub mod Cuts
+pub mod Maps
+pub mod Accepting
+pub mod Taking
+pub mod NextTurns
+pub mod Parts
+pub mod Firsts
+pub mod Records
+pub mod Paths
+pub mod Answering
+pub mod Replays
+pub mod OneVersion
+pub mod NeverBack

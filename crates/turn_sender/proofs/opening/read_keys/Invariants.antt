@@ -1,7 +1,0 @@
-use Rattle.std.proofs.Common.{ℕ, ◌<◌, get_or}
-use Rattle.flow_types.specs.declared.record.Flow.{Flow}
-use Rattle.delta_codec.specs.Values.{IsKeyValue}
-use Rattle.turn_sender.proofs.opening.read_keys.Given as goal
-
-abbrev pub invariant-flows : goal.invariant-flows
-invariant-flows l = (k : ℕ) (d : Flow) → k < l.flow-index → IsKeyValue (get_or l.flows k d).key
