@@ -12,7 +12,7 @@
 //! those of storm's mode. A packet's versions are versions that its key's group has in its phase; its node and its record are
 //! those that the group's map and canonical record of these versions give; and what a lane has seen of an owner at a node
 //! never goes back: for each lane, node and owner there is a number of turns, for tables and for FIBs each, that never falls
-//! and of which just so many are of the packet's group as the version says.
+//! and of which exactly as many are of the packet's group as the version says.
 //!
 //! Nothing of it is proved, and it takes nothing of the crates.
 

@@ -1,4 +1,4 @@
-"""What the scripts of this folder share: the programs, their inputs, what a run takes, and how figures are told."""
+"""What the scripts of this folder share: the programs, their inputs, what a run takes, and how figures are told and kept."""
 import collections
 import datetime
 import os
@@ -11,6 +11,9 @@ import time
 
 ROOT = pathlib.Path(__file__).resolve().parent.parent
 PROGRAM = ROOT / "crates/scalebricks/out/scalebricks"
+BENCH = ROOT / "crates/bench/out/bench"
+# What was printed, a file a round, whose name begins with its number.
+ROUNDS = ROOT / "bench/rounds"
 # For the processors that the proved program is built for.
 RUSTC = ["rustc", "--edition", "2021", "-O", "-C", "target-cpu=x86-64-v2"]
 
@@ -19,6 +22,17 @@ def build():
     """Proves and builds the program where it is missing or stale."""
     rows = b"cluster,2,1\nbegin\nend\n"
     subprocess.run([ROOT / "scalebricks", "replay"], input=rows, stdout=subprocess.DEVNULL, check=True)
+
+
+def build_bench():
+    """Proves and builds the program `bench` where the one that stands, which the gate may have left, isn't of these sources."""
+    script = """
+        . .ci/built
+        is_current && exit
+        from=$(sources)
+        (cd crates/bench && rt run) </dev/null >/dev/null && note_built_from "$from"
+    """
+    subprocess.run(["bash", "-c", script], cwd=ROOT, env={**os.environ, "of_crate": "bench"}, check=True)
 
 
 def build_native(folder):
@@ -102,3 +116,17 @@ def head(runs):
 def line(name, values, unit, form="{:.3f}"):
     shown = [form.format(value) for value in (statistics.median(values), min(values), max(values))]
     print(f"{name:<34}{shown[0]:>12} {unit:<12}{shown[1]} to {shown[2]}", flush=True)
+
+
+LINE = re.compile(r"(?m)^(.+?)\s{2,}([\d.]+)(?: (\S+(?: \S+)*))?\s{2,}([\d.]+) to ([\d.]+)$")
+# A figure as `line` prints it, and the round that it is of.
+Figure = collections.namedtuple("Figure", "median unit least most round")
+
+
+def newest_figures():
+    """Of each name the figure of the last round that has it."""
+    figures = {}
+    for file in sorted(ROUNDS.glob("*.md"), key=lambda file: int(file.name.split("-")[0])):
+        for name, median, unit, least, most in LINE.findall(file.read_text()):
+            figures[name] = Figure(float(median), unit, float(least), float(most), file)
+    return figures

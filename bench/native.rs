@@ -6,8 +6,8 @@
 //! the record and version of every group, and one hash map of the records of its flows. A turn is kept as a value and not
 //! as octets: what is carried shows nowhere in the output.
 //!
-//! It takes good inputs alone: a bad row or a block past a limit ends in a panic, or in lines that mean nothing. Fields in
-//! quotes may have no comma, quote or line end.
+//! It takes good inputs alone: an input without `begin` or `end` and a block past a limit end in a panic, and other bad rows
+//! do, or give lines that mean nothing. Fields in quotes may have no comma, quote or line end.
 
 use std::io::{self, Read, Write};
 
@@ -143,10 +143,11 @@ fn read_opening(rows: &mut Rows) -> (usize, usize, Vec<Flow>) {
     let mut flows = Vec::new();
     loop {
         let row = rows.next();
-        if row[0] == b"begin" {
-            return (number(nodes) as usize, number(blocks) as usize, flows);
+        match row[0] {
+            b"begin" => return (number(nodes) as usize, number(blocks) as usize, flows),
+            b"flow" => flows.push(flow(&row[1..])),
+            _ => panic!("no good input: neither a flow nor begin"),
         }
-        flows.push(flow(&row[1..]));
     }
 }
 
