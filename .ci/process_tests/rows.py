@@ -3,7 +3,7 @@ import random
 
 
 def rows_and_report(flows, packets, nodes=4, blocks=8, octets=None):
-    """An input, filled up with blank lines to so many octets if they are given, and what the program prints for it.
+    """An input, filled up with blank lines to a number of octets if that is given, and what the program prints for it.
 
     Every packet's key is that of a flow, so its node and its record are those of the flow's row. The blank lines follow
     the first row, and the last row has no end, so that no octet of the last ones can be left out.
