@@ -1,4 +1,4 @@
-ghost use Rattle.std.specs.Prelude.{◌≡◌, ◌≤◌};
+ghost use Rattle.std.specs.Prelude.{◌≡◌, ◌≤◌, ◌<◌, ◌+◌, ◌*◌, ◌^◌};
 ghost use Rattle.flow_types.specs.Key.{number};
 ghost use Rattle.hash_family.specs.Hash as hash;
 
@@ -22,15 +22,34 @@ pub fn mix(z: u64) -> u64
 }
 
 /// The `j`-th base of a key, from which its place (1) and its hash pair (2 and 3) come.
-#[tactic(auto, unfolding(crate::specs::Hash::base))]
 pub fn base(j: u8, key: FlowKey) -> u64
     requires least { 1 ≤ j }
     requires most { j ≤ 3 }
     ensures { result ≡ hash.base j (number key) }
 {
+    let (low, high) = words_of(&key);
+    base_of(j, low, high)
+}
+
+/// The lower 64 bits and the upper 40 of a key's number.
+#[inline(always)]
+pub(crate) fn words_of(key: &FlowKey) -> (u64, u64)
+    ensures number { result.1 * 2 ^ 64 + result.0 ≡ number key.now }
+    ensures upper { result.1 < 2 ^ 40 }
+{
     let number = key.number();
     let low = (number & 0xFFFF_FFFF_FFFF_FFFF) as u64;
     let high = (number >> 64) as u64;
+    (low, high)
+}
+
+/// The `j`-th base of a key whose number has these lower 64 bits and these upper 40.
+#[inline(always)]
+#[tactic(auto, unfolding(crate::specs::Hash::base))]
+pub(crate) fn base_of(j: u8, low: u64, high: u64) -> u64
+    requires { high < 2 ^ 40 }
+    ensures { result ≡ hash.base j (high * 2 ^ 64 + low) }
+{
     let seed = SEED_STEP.wrapping_mul(u64::from(j));
     mix(mix(low ^ seed).wrapping_add(high))
 }

@@ -1,4 +1,4 @@
-ghost use Rattle.std.specs.Prelude.{◌≡◌, ◌<◌};
+ghost use Rattle.std.specs.Prelude.{◌≡◌, ◌<◌, ◌/◌, ◌^◌, bit_or};
 ghost use Rattle.hash_family.specs.Hash as hash;
 
 use crate::mixing::base;
@@ -18,13 +18,22 @@ pub struct HashPair {
 pub fn pair(key: FlowKey) -> HashPair
     ensures { result ≡ hash.pair key }
 {
+    pair_of(base(2, key), base(3, key))
+}
+
+/// The hash pair of a key whose second and third bases these are.
+#[inline(always)]
+pub(crate) fn pair_of(second: u64, third: u64) -> HashPair
+    ensures { result ≡ record { g1 = second / 2 ^ 32; g2 = bit_or (third / 2 ^ 32) 1 } }
+{
     HashPair {
-        g1: (base(2, key) >> 32) as u32,
-        g2: (base(3, key) >> 32) as u32 | 1,
+        g1: (second >> 32) as u32,
+        g2: (third >> 32) as u32 | 1,
     }
 }
 
 /// The position, 0..=7, of a key with this pair under the member `index` of the family.
+#[inline(always)]
 #[tactic(auto, unfolding(crate::specs::Hash::position))]
 pub fn position(pair: HashPair, index: u16) -> u8
     ensures value { result ≡ hash.position pair index }

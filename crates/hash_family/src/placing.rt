@@ -1,4 +1,5 @@
-ghost use Rattle.std.specs.Prelude.{◌≡◌, ◌<◌};
+ghost use Rattle.std.specs.Prelude.{◌≡◌, ◌<◌, ◌/◌, ◌%◌, ◌^◌};
+ghost use Rattle.block_layout.specs.Limits.{bucket_count};
 ghost use Rattle.hash_family.specs.Hash as hash;
 
 use crate::bucket::Place;
@@ -11,9 +12,17 @@ pub fn place(shape: Shape, key: FlowKey) -> Place
     ensures value { result ≡ hash.place shape.blocks key }
     ensures in_range { result.block < shape.blocks }
 {
-    let hash = base(1, key);
+    placed(base(1, key), shape)
+}
+
+/// The block and bucket of a key whose first base this is, at a shape.
+#[inline(always)]
+pub(crate) fn placed(first: u64, shape: Shape) -> Place
+    ensures value { result ≡ record { block = first / 2 ^ 32 % shape.blocks; bucket = first % bucket_count } }
+    ensures in_range { result.block < shape.blocks }
+{
     Place {
-        block: ((hash >> 32) % u64::from(shape.blocks())) as u16,
-        bucket: (hash & 0xFF) as u8,
+        block: ((first >> 32) % u64::from(shape.blocks())) as u16,
+        bucket: (first & 0xFF) as u8,
     }
 }

@@ -49,7 +49,22 @@ fn keys_of_the_seeds(rt: HostRuntime) {
             bucket: 0,
         };
         assert_eq!(rt; place(shape, first), origin, "{blocks} blocks");
+        let hashed = HashedKey::of(&second);
+        assert_eq!(rt;
+            hashed.place(shape),
+            place(shape, second),
+            "{blocks} blocks"
+        );
+        let by = Reciprocal::of(shape);
+        assert_eq!(rt;
+            hashed.place_by(&by),
+            place(shape, second),
+            "{blocks} blocks"
+        );
     }
+    let hashed = HashedKey::of(&third);
+    assert_eq!(rt; hashed.key(), third);
+    assert_eq!(rt; hashed.pair(), pair(third));
     assert_eq!(rt; pair(second).g1, 0);
     assert_eq!(rt; pair(third).g2, 1);
 }
