@@ -21,3 +21,4 @@ pub mod FirstPastLimit
 pub mod Below
 pub mod NodesBelow
 pub mod Sums
+pub mod FourValues

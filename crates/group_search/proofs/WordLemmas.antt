@@ -82,7 +82,7 @@ abbrev pub pairs_there : List ℕ → List Pair
 pairs_there words = pairs_in (get_or words 0 0) (get_or words 1 0)
 
 module _ (bits : ℕ) (pairs : List Pair) (words : List ℕ) (h : AreServedWords bits pairs words) where
-  pairs_back : pairs_there words ≡ pairs ++ replicate (most_value_bits - bits) zero_pair
+  pub pairs_back : pairs_there words ≡ pairs ++ replicate (most_value_bits - bits) zero_pair
   pairs_back =
       let at : (i : ℕ) → IsPair (pair_at pairs i) = λ i. pair_at_sized pairs i h.sized in
       let four = listed pairs (omega (arith, h.one_each, h.enough)) (omega (arith, h.one_each, h.few)) in

@@ -8,7 +8,7 @@ use crate::{
     the_limits_are, unpack, words_spell_one_row,
 };
 use flow_types::FlowKey;
-use hash_family::{HashPair, mix, position};
+use hash_family::{HashPair, HashedKey, mix, position};
 use std::alloc::{AllocError, Global};
 use std::test::Fail;
 
@@ -282,6 +282,9 @@ fn decodes_packed_words(rt: HostRuntime) {
     let words = pack(&record);
     for protocol in 0..=255 {
         let key = key(3, protocol);
-        assert_eq!(rt; served_node(words, 2, 3, key), record.decode(3, key));
+        assert_eq!(rt;
+            served_node(words, 2, 3, &HashedKey::of(&key)),
+            record.decode(3, key)
+        );
     }
 }
