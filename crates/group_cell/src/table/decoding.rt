@@ -9,6 +9,7 @@ ghost use Rattle.group_cell.specs.Seating.{GivesNode, LacksKey, RowsGive};
 use crate::layout::DATA_WORDS;
 use flow_types::{FlowKey, Shape};
 use group_search::{row_of, served_node};
+use hash_family::HashedKey;
 
 /// The node of the key's row, where the words of a place are those of a row with this key.
 pub fn node_in(first: u64, second: u64, key: FlowKey) -> Option<u8>
@@ -37,9 +38,9 @@ pub fn decoded(
     shape: Shape,
     words: [u64; DATA_WORDS],
     found: Option<u8>,
-    key: FlowKey,
+    key: &HashedKey,
 ) -> Option<u8>
-    ensures { (content : GroupRecord) → PacksTo (value_bits shape.nodes) (packed_of content) words → RowsGive content key found → result ≡ decode content shape.nodes key }
+    ensures { (content : GroupRecord) → PacksTo (value_bits shape.nodes) (packed_of content) words → RowsGive content key.now found → result ≡ decode content shape.nodes key.now }
 {
     if has_rows(words[0]) {
         return found;

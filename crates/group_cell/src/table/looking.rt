@@ -14,8 +14,10 @@ use crate::table::decoding::{decoded, has_rows, node_in};
 use crate::table::{CellTable, Changing, Look, ReaderSeat};
 use crate::view::Address;
 use flow_types::FlowKey;
+use hash_family::HashedKey;
 
 // Loads the group's sequence word.
+#[inline(always)]
 fn begin(shelf: &Shelf, seat: &mut CellSeat, at: Address) -> u64
     requires own { seat.old.table_id ≡ shelf.now.table_id }
     requires inside { IsAt shelf.now.table_id.words shelf.now.key.value (home_of at) }
@@ -26,6 +28,7 @@ fn begin(shelf: &Shelf, seat: &mut CellSeat, at: Address) -> u64
 }
 
 // Loads a word in a look.
+#[inline(always)]
 fn load(shelf: &Shelf, seat: &mut CellSeat, word: usize) -> u64
     requires own { seat.old.table_id ≡ shelf.now.table_id }
     requires inside { word < shelf.now.table_id.words }
@@ -38,6 +41,7 @@ fn load(shelf: &Shelf, seat: &mut CellSeat, word: usize) -> u64
 }
 
 // Loads the group's data words.
+#[inline(always)]
 fn gather(shelf: &Shelf, seat: &mut CellSeat, at: Address) -> [u64; DATA_WORDS]
     requires own { seat.old.table_id ≡ shelf.now.table_id }
     requires inside { IsAt shelf.now.table_id.words shelf.now.key.value (home_of at) }
@@ -83,19 +87,40 @@ fn probe(
     }
 }
 
-// Goes over all places of the block, where the first data word is that of a record with rows.
-fn search(shelf: &Shelf, seat: &mut CellSeat, at: Address, datum: u64, key: FlowKey) -> Option<u8>
+// Searches the places, where the first data word is that of a record with rows.
+#[inline(always)]
+fn search(
+    shelf: &Shelf,
+    seat: &mut CellSeat,
+    at: Address,
+    datum: u64,
+    key: &HashedKey,
+) -> Option<u8>
     requires own { seat.old.table_id ≡ shelf.now.table_id }
     requires inside { IsAt shelf.now.table_id.words shelf.now.key.value (home_of at) }
     requires looking { IsLooking seat.old }
     ensures looking { IsLooking seat.new }
     ensures goes_on { GoesOn seat.old seat.new }
-    ensures found { 2 ^ 48 ≤ datum → IsFound (loads_of seat.new) (home_of at) 64 key result }
+    ensures found { 2 ^ 48 ≤ datum → IsFound (loads_of seat.new) (home_of at) 64 key.now result }
     ensures no_loads { datum < 2 ^ 48 → loads_of seat.new ≡ loads_of seat.old }
 {
     if !has_rows(datum) {
         return None;
     }
+    search_places(shelf, seat, at, key.key())
+}
+
+// Goes over all places of the block. Few groups have rows, so that the way of the others is kept short.
+#[cold]
+#[inline(never)]
+fn search_places(shelf: &Shelf, seat: &mut CellSeat, at: Address, key: FlowKey) -> Option<u8>
+    requires own { seat.old.table_id ≡ shelf.now.table_id }
+    requires inside { IsAt shelf.now.table_id.words shelf.now.key.value (home_of at) }
+    requires looking { IsLooking seat.old }
+    ensures looking { IsLooking seat.new }
+    ensures goes_on { GoesOn seat.old seat.new }
+    ensures found { IsFound (loads_of seat.new) (home_of at) 64 key result }
+{
     let mut found = None;
     'places: for place in 0..PLACES {
         found = probe(shelf, seat, at, place, key, found);
@@ -104,6 +129,7 @@ fn search(shelf: &Shelf, seat: &mut CellSeat, at: Address, datum: u64, key: Flow
 }
 
 // Loads the group's sequence word once more.
+#[inline(always)]
 fn end(shelf: &Shelf, seat: &mut CellSeat, at: Address) -> u64
     requires own { seat.old.table_id ≡ shelf.now.table_id }
     requires inside { IsAt shelf.now.table_id.words shelf.now.key.value (home_of at) }
@@ -123,6 +149,7 @@ impl CellTable {
     /// The key's home is the group. The block is one of the table's, the group is below 64, and the seat is this
     /// table's. A look loads the sequence word twice and the data words once, and the places of a record with rows.
     /// It waits for nobody, and nothing says that it ever succeeds beside a writer that never rests.
+    #[inline(always)]
     pub fn look(
         &self,
         reader: &mut ReaderSeat,
@@ -137,6 +164,32 @@ impl CellTable {
         ensures later { IsPrefix (seen reader.old) (seen reader.new) }
         ensures looks { looks reader.new ≡ looks reader.old + 1 }
         ensures answer { IfOk result (λ l. FindsNode (opened_with self.now) reader.new (the_group block group) key l.version l.node) }
+        ensures in_cluster { IfOk result (λ l. IfSome l.node (λ node. node < (opened_with self.now).size.nodes)) }
+        ensures served { IfOk result (λ l. LoadsDataAlone (opened_with self.now) reader.new (the_group block group) l.version) }
+        ensures changing { IfErr result (λ c. Changes reader.new (the_group block group) c.first c.second) }
+    {
+        self.look_hashed(reader, block, group, &HashedKey::of(&key))
+    }
+
+    /// What `look` gives a key that is hashed already.
+    ///
+    /// The key's home is the group. The block is one of the table's, the group is below 64, and the seat is this
+    /// table's.
+    #[inline(always)]
+    pub fn look_hashed(
+        &self,
+        reader: &mut ReaderSeat,
+        block: u16,
+        group: u8,
+        key: &HashedKey,
+    ) -> Result<Look, Changing>
+        requires reader { IsReaderOf self.now reader.old }
+        requires inside { IsIn (opened_with self.now) (the_group block group) }
+
+        ensures reader { IsReaderOf self.now reader.new }
+        ensures later { IsPrefix (seen reader.old) (seen reader.new) }
+        ensures looks { looks reader.new ≡ looks reader.old + 1 }
+        ensures answer { IfOk result (λ l. FindsNode (opened_with self.now) reader.new (the_group block group) key.now l.version l.node) }
         ensures in_cluster { IfOk result (λ l. IfSome l.node (λ node. node < (opened_with self.now).size.nodes)) }
         ensures served { IfOk result (λ l. LoadsDataAlone (opened_with self.now) reader.new (the_group block group) l.version) }
         ensures changing { IfErr result (λ c. Changes reader.new (the_group block group) c.first c.second) }

@@ -13,8 +13,10 @@ use crate::table::decoding::{decoded, has_rows, node_in};
 use crate::table::{CellTable, Look, WriterSeat};
 use crate::view::Address;
 use flow_types::FlowKey;
+use hash_family::HashedKey;
 
 // Loads a word of the writer's.
+#[inline(always)]
 fn ask(shelf: &Shelf, seat: &mut CellSeat, word: usize) -> u64
     requires own { seat.old.table_id ≡ shelf.now.table_id }
     requires inside { word < shelf.now.table_id.words }
@@ -28,6 +30,7 @@ fn ask(shelf: &Shelf, seat: &mut CellSeat, word: usize) -> u64
 }
 
 // Loads the group's data words.
+#[inline(always)]
 fn ask_data(shelf: &Shelf, seat: &mut CellSeat, at: Address) -> [u64; DATA_WORDS]
     requires own { seat.old.table_id ≡ shelf.now.table_id }
     requires inside { IsAt shelf.now.table_id.words shelf.now.key.value (home_of at) }
@@ -75,26 +78,48 @@ fn probe(
     }
 }
 
-// Goes over the group's places, where the first data word is that of a record with rows.
+// Searches the group's places, where the first data word is that of a record with rows.
+#[inline(always)]
 fn search(
     shelf: &Shelf,
     seat: &mut CellSeat,
     owners: &[u8; PLACES],
     at: Address,
     datum: u64,
-    key: FlowKey,
+    key: &HashedKey,
 ) -> Option<u8>
     requires own { seat.old.table_id ≡ shelf.now.table_id }
     requires inside { IsAt shelf.now.table_id.words shelf.now.key.value (home_of at) }
     requires writes { IsWriter seat.old.me.0 }
     requires owners { AreOwners owners.now (words_of_seat seat.old) at.block }
-    ensures found { 2 ^ 48 ≤ datum → StandsFound (words_of_seat seat.old) (home_of at) 64 key result }
+    ensures found { 2 ^ 48 ≤ datum → StandsFound (words_of_seat seat.old) (home_of at) 64 key.now result }
     ensures same { IsSameSeat seat.old seat.new }
     ensures kept { seat.new.me ≡ seat.old.me }
 {
     if !has_rows(datum) {
         return None;
     }
+    search_places(shelf, seat, owners, at, key.key())
+}
+
+// Goes over the group's places. Few groups have rows, so that the way of the others is kept short.
+#[cold]
+#[inline(never)]
+fn search_places(
+    shelf: &Shelf,
+    seat: &mut CellSeat,
+    owners: &[u8; PLACES],
+    at: Address,
+    key: FlowKey,
+) -> Option<u8>
+    requires own { seat.old.table_id ≡ shelf.now.table_id }
+    requires inside { IsAt shelf.now.table_id.words shelf.now.key.value (home_of at) }
+    requires writes { IsWriter seat.old.me.0 }
+    requires owners { AreOwners owners.now (words_of_seat seat.old) at.block }
+    ensures found { StandsFound (words_of_seat seat.old) (home_of at) 64 key result }
+    ensures same { IsSameSeat seat.old seat.new }
+    ensures kept { seat.new.me ≡ seat.old.me }
+{
     let mut found = None;
     'places: for place in 0..PLACES {
         found = probe(shelf, seat, owners[place], at, place, key, found);
@@ -108,6 +133,7 @@ impl CellTable {
     ///
     /// The key's home is the group. The block is one of the table's, the group is below 64, and the seat is this
     /// table's. Nothing changes.
+    #[inline(always)]
     pub fn look_own(&self, writer: &mut WriterSeat, block: u16, group: u8, key: FlowKey) -> Look
         requires writer { IsWriterOf self.now writer.old }
         requires inside { IsIn (opened_with self.now) (the_group block group) }
@@ -116,6 +142,30 @@ impl CellTable {
         ensures kept { published writer.new ≡ published writer.old }
         ensures version { result.version ≡ count (published writer.old) (the_group block group) }
         ensures node { result.node ≡ node_at_version (opened_with self.now) (published writer.old) (the_group block group) result.version key }
+        ensures in_cluster { IfSome result.node (λ node. node < (opened_with self.now).size.nodes) }
+    {
+        self.look_own_hashed(writer, block, group, &HashedKey::of(&key))
+    }
+
+    /// What `look_own` gives a key that is hashed already.
+    ///
+    /// The key's home is the group. The block is one of the table's, the group is below 64, and the seat is this
+    /// table's.
+    #[inline(always)]
+    pub fn look_own_hashed(
+        &self,
+        writer: &mut WriterSeat,
+        block: u16,
+        group: u8,
+        key: &HashedKey,
+    ) -> Look
+        requires writer { IsWriterOf self.now writer.old }
+        requires inside { IsIn (opened_with self.now) (the_group block group) }
+
+        ensures writer { IsWriterOf self.now writer.new }
+        ensures kept { published writer.new ≡ published writer.old }
+        ensures version { result.version ≡ count (published writer.old) (the_group block group) }
+        ensures node { result.node ≡ node_at_version (opened_with self.now) (published writer.old) (the_group block group) result.version key.now }
         ensures in_cluster { IfSome result.node (λ node. node < (opened_with self.now).size.nodes) }
     {
         let at = Address { block, group };

@@ -7,7 +7,7 @@ use Rattle.group_cell.specs.Seating.{data_loads, loads_of, look_in}
 use Rattle.group_cell.specs.Seats.{the_group, opened_with}
 use Rattle.group_cell.proofs.Answering.{counted_now, few_loaded, has_datum, has_looked, is_looking, last_begun, loaded_whole, look_begun, node_below, node_is}
 use Rattle.group_cell.proofs.Looking.{goes_on-trans}
-use Rattle.group_cell.proofs.table.CellTable.look.Goals as goal
+use Rattle.group_cell.proofs.table.CellTable.look_hashed.Goals as goal
 
 pub gather-words-requires-clause-looking : goal.gather-words-requires-clause-looking
 gather-words-requires-clause-looking c = is_looking _ _ _ _ c.begin-first.ensures (let no = c.if-first-eq1.false in omega arith)
@@ -35,7 +35,7 @@ returns-clause-answer c = let at = the_group c.args.block c.args.group in let fi
     let again = c.if-second-first.false in let even : IsEven first = (let no = c.if-first-eq1.false in omega arith) in let double : first ≡ 2 * (first / 2) = omega arith in
     let whole = loaded_whole s0 s1 s3 t at first c.end-second.result h g l e (opened_with c.args.self.now) c.requires.reader.one_opening even again c.end-second.ensures.whole in record {
       version_is = counted_now s0 s1 s3 t at first c.end-second.result h g l e;
-      node_is = node_is (opened_with c.args.self.now) _ _ c.gather-words.result c.args.key c.search-found.result _ c.args.self.now.shaped two.width c.decoded.ensures _ at whole
+      node_is = node_is (opened_with c.args.self.now) _ _ c.gather-words.result c.args.key.now c.search-found.result _ c.args.self.now.shaped two.width c.decoded.ensures _ at whole
           (λ j less. c.search-found.ensures.goes_on.loads _ (has_datum _ _ at _ two.loads j less)) c.search-found.ensures.found;
       this_look = record { loads = loads_of s3; last = has_looked s0 s1 s3 t at first c.end-second.result h g l e ∙ (λ i. Some record { at = address at; first = double i; second = Some ((again ∙ double) i); loads = loads_of s3 }) };
     }
@@ -46,7 +46,7 @@ returns-clause-in_cluster c = let at = the_group c.args.block c.args.group in le
     let s0 = c.args.reader.now.seat in let s1 = c.begin-first.new.seat in let s3 = c.search-found.new.seat in let t = c.end-second.new.seat in
     let again = c.if-second-first.false in let even : IsEven first = (let no = c.if-first-eq1.false in omega arith) in
     let whole = loaded_whole s0 s1 s3 t at first c.end-second.result h g l e (opened_with c.args.self.now) c.requires.reader.one_opening even again c.end-second.ensures.whole in
-    node_below (opened_with c.args.self.now) _ _ c.gather-words.result c.args.key c.search-found.result _ c.args.self.now.shaped two.width c.decoded.ensures _ at whole
+    node_below (opened_with c.args.self.now) _ _ c.gather-words.result c.args.key.now c.search-found.result _ c.args.self.now.shaped two.width c.decoded.ensures _ at whole
     (λ j less. c.search-found.ensures.goes_on.loads _ (has_datum _ _ at _ two.loads j less)) c.search-found.ensures.found
 
 pub returns-clause-served : goal.returns-clause-served

@@ -13,7 +13,7 @@ use Rattle.group_cell.specs.Seating.{StandsFound}
 use Rattle.group_cell.specs.Seats.{opened_with, the_group}
 use Rattle.group_cell.proofs.Answering.{own_node, own_node_below}
 use Rattle.group_cell.proofs.Reading.{halves}
-use Rattle.group_cell.proofs.table.CellTable.look_own.Goals as goal
+use Rattle.group_cell.proofs.table.CellTable.look_own_hashed.Goals as goal
 
 -- the group rests, since nothing is in writing
 rests : (w : WriterView) (o : Opened) (at : Home) → Stands w → w.writing ≡ None → w.opening ≡ o → IsIn o at → Rests w at
@@ -36,15 +36,15 @@ returns-clause-node c = let w = writer_view c.args.writer.now.seat.me.0 in let o
     let ask = c.ask-sequence.ensures in let load = c.ask_data-words.ensures in
     let found : c.ask-sequence.result ≡ sequence w.words at = ask.found ∙ ap (λ (i : ℕ). get_or w.words i 0) c.sequence_word.ensures in
     let holds = holds_latest w o at (c.ask-sequence.result / 2) ask.stands c.args.writer.now.writes.rests c.requires.writer.one_opening c.requires.inside c.ask-sequence.result found refl in
-    own_node o _ _ c.ask_data-words.result c.args.key c.search-found.result _ c.args.self.now.shaped load.width c.decoded.ensures w.words at holds
+    own_node o _ _ c.ask_data-words.result c.args.key.now c.search-found.result _ c.args.self.now.shaped load.width c.decoded.ensures w.words at holds
     (λ j two. load.found j two ∙ ap (λ (m : Me ℕ View). datum (writer_view m.0).words at j) ask.kept)
-    (λ many. subst (λ (m : Me ℕ View). StandsFound (writer_view m.0).words at 64 c.args.key c.search-found.result) (load.kept ∙ ask.kept) (c.search-found.ensures.found many))
+    (λ many. subst (λ (m : Me ℕ View). StandsFound (writer_view m.0).words at 64 c.args.key.now c.search-found.result) (load.kept ∙ ask.kept) (c.search-found.ensures.found many))
 
 pub returns-clause-in_cluster : goal.returns-clause-in_cluster
 returns-clause-in_cluster c = let w = writer_view c.args.writer.now.seat.me.0 in let o = opened_with c.args.self.now in let at = the_group c.args.block c.args.group in
     let ask = c.ask-sequence.ensures in let load = c.ask_data-words.ensures in
     let found : c.ask-sequence.result ≡ sequence w.words at = ask.found ∙ ap (λ (i : ℕ). get_or w.words i 0) c.sequence_word.ensures in
     let holds = holds_latest w o at (c.ask-sequence.result / 2) ask.stands c.args.writer.now.writes.rests c.requires.writer.one_opening c.requires.inside c.ask-sequence.result found refl in
-    own_node_below o _ _ c.ask_data-words.result c.args.key c.search-found.result _ c.args.self.now.shaped load.width c.decoded.ensures w.words at holds
+    own_node_below o _ _ c.ask_data-words.result c.args.key.now c.search-found.result _ c.args.self.now.shaped load.width c.decoded.ensures w.words at holds
     (λ j two. load.found j two ∙ ap (λ (m : Me ℕ View). datum (writer_view m.0).words at j) ask.kept)
-    (λ many. subst (λ (m : Me ℕ View). StandsFound (writer_view m.0).words at 64 c.args.key c.search-found.result) (load.kept ∙ ask.kept) (c.search-found.ensures.found many))
+    (λ many. subst (λ (m : Me ℕ View). StandsFound (writer_view m.0).words at 64 c.args.key.now c.search-found.result) (load.kept ∙ ask.kept) (c.search-found.ensures.found many))
