@@ -6,6 +6,7 @@ ghost use Rattle.replica_shard.specs.Owners.{AreOwnersCells};
 use block_layout::Choices;
 use flow_types::Shape;
 use group_cell::{CellTable, ReaderSeat, WriterSeat};
+use hash_family::Reciprocal;
 
 mod applying;
 mod meeting;
@@ -27,6 +28,8 @@ pub struct Shard {
     owner: u8,
     // 2^16 divided by the number of nodes, and 1 more.
     share: u32,
+    reciprocal: Reciprocal,
+    ghost divided: { reciprocal ≡ shape.blocks },
     ghost shared: { share ≡ 65536 / shape.nodes + 1 },
     ghost cells: { AreOwnersCells shape owner choices.items (opened_with table) },
     ghost full: { HaveAllGroups (opened_with table).images },

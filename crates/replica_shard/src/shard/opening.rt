@@ -10,6 +10,7 @@ use crate::shard::{Shard, ShardPlan, ShardWriter};
 use flow_types::Shape;
 use group_cell::CellTable;
 use group_search::BlockImage;
+use hash_family::Reciprocal;
 use out_of_memory::OutOfMemory;
 use std::alloc::Global;
 
@@ -55,6 +56,7 @@ impl Shard {
             shape,
             owner,
             share,
+            reciprocal: Reciprocal::of(shape),
         };
         Ok((shard, ShardWriter { seat, taken: 0 }))
     }

@@ -16,7 +16,7 @@ use crate::shard::{Shard, ShardReader, ShardWriter};
 use flow_types::FlowKey;
 use flow_types::laws::numbers_of_a_shape;
 use group_cell::{Changing, Look};
-use hash_family::{Place, place};
+use hash_family::{HashedKey, Place, place};
 
 impl Shard {
     /// Where the table sends a key, as far as this reader has then seen: the node that one whole record of the key's
@@ -25,6 +25,7 @@ impl Shard {
     ///
     /// The key's block belongs to the owner, and the seat is this shard's. What the reader has seen only grows. It takes
     /// no memory and waits for nobody, and nothing says that it ever succeeds beside a writer that never rests.
+    #[inline(always)]
     pub fn route(&self, reader: &mut ShardReader, key: FlowKey) -> Result<Route, Changing>
         requires reader { IsShardReaderOf self.now reader.old }
         requires owned { IsOwned self.now.shape self.now.owner key }
@@ -38,17 +39,19 @@ impl Shard {
         ensures changing { IfErr result (λ c.
             FindsChange self.now reader.new (home_in_state (shard_state_of (shard_seen self.now reader.new)) (hash.place self.now.shape.blocks key)) c.first c.second) }
     {
-        self.route_at(reader, place(self.shape, key), key)
+        let key = HashedKey::of(&key);
+        self.route_at(reader, self.place(&key), &key)
     }
 
-    /// What `route` gives a key whose place is known.
+    /// What `route` gives a key that is hashed already and whose place is known.
     ///
     /// The place's block belongs to the owner, and the seat is this shard's. It takes no memory.
+    #[inline(always)]
     pub fn route_at(
         &self,
         reader: &mut ShardReader,
         at: Place,
-        key: FlowKey,
+        key: &HashedKey,
     ) -> Result<Route, Changing>
         requires reader { IsShardReaderOf self.now reader.old }
         requires owned { at.block % self.now.shape.nodes ≡ self.now.owner }
@@ -56,7 +59,7 @@ impl Shard {
         ensures reader { IsShardReaderOf self.now reader.new }
         ensures later { IsPrefix (seen_list self.now reader.old) (seen_list self.now reader.new) }
         ensures looks { first_loads reader.new ≡ first_loads reader.old + 1 }
-        ensures answer { IfOk result (λ route. route ≡ route_in_state (shard_state_of (shard_seen self.now reader.new)) at key) }
+        ensures answer { IfOk result (λ route. route ≡ route_in_state (shard_state_of (shard_seen self.now reader.new)) at key.now) }
         ensures in_cluster { IfOk result (λ route. IfSome route.node (λ node. node < self.now.shape.nodes)) }
         ensures this_look { IfOk result (λ route.
             HasRouted self.now reader.new (home_in_state (shard_state_of (shard_seen self.now reader.new)) at) (2 * route.version) (2 * route.version)) }
@@ -64,7 +67,7 @@ impl Shard {
             FindsChange self.now reader.new (home_in_state (shard_state_of (shard_seen self.now reader.new)) at) c.first c.second) }
     {
         let (block, group) = self.cell(at);
-        match self.table.look(&mut reader.seat, block, group, key) {
+        match self.table.look_hashed(&mut reader.seat, block, group, key) {
             Ok(look) => Ok(Route {
                 version: look.version,
                 node: look.node,
@@ -76,6 +79,7 @@ impl Shard {
     /// Where the table sends a key after all that the writer has taken.
     ///
     /// The key's block belongs to the owner, and the seat is this shard's. Nothing changes, and it takes no memory.
+    #[inline(always)]
     pub fn route_own(&self, writer: &mut ShardWriter, key: FlowKey) -> Route
         requires writer { IsShardWriterOf self.now writer.old }
         requires owned { IsOwned self.now.shape self.now.owner key }
@@ -84,23 +88,27 @@ impl Shard {
         ensures answer { result ≡ route_in_state (shard_state_of (shard_taken self.now writer.old)) (hash.place self.now.shape.blocks key) key }
         ensures in_cluster { IfSome result.node (λ node. node < self.now.shape.nodes) }
     {
-        self.route_own_at(writer, place(self.shape, key), key)
+        let key = HashedKey::of(&key);
+        self.route_own_at(writer, self.place(&key), &key)
     }
 
-    /// What `route_own` gives a key whose place is known.
+    /// What `route_own` gives a key that is hashed already and whose place is known.
     ///
     /// The place's block belongs to the owner, and the seat is this shard's. It takes no memory.
-    pub fn route_own_at(&self, writer: &mut ShardWriter, at: Place, key: FlowKey) -> Route
+    #[inline(always)]
+    pub fn route_own_at(&self, writer: &mut ShardWriter, at: Place, key: &HashedKey) -> Route
         requires writer { IsShardWriterOf self.now writer.old }
         requires owned { at.block % self.now.shape.nodes ≡ self.now.owner }
         requires within { at.block < self.now.shape.blocks }
         ensures writer { IsShardWriterOf self.now writer.new }
         ensures kept { taken_list self.now writer.new ≡ taken_list self.now writer.old }
-        ensures answer { result ≡ route_in_state (shard_state_of (shard_taken self.now writer.old)) at key }
+        ensures answer { result ≡ route_in_state (shard_state_of (shard_taken self.now writer.old)) at key.now }
         ensures in_cluster { IfSome result.node (λ node. node < self.now.shape.nodes) }
     {
         let (block, group) = self.cell(at);
-        let Look { version, node } = self.table.look_own(&mut writer.seat, block, group, key);
+        let Look { version, node } = self
+            .table
+            .look_own_hashed(&mut writer.seat, block, group, key);
         Route { version, node }
     }
 
@@ -120,6 +128,7 @@ impl Shard {
     /// What `home` gives a key whose place is known. It takes no memory.
     ///
     /// The place's block belongs to the owner.
+    #[inline(always)]
     pub fn home_at(&self, at: Place) -> (u16, u8)
         requires owned { at.block % self.now.shape.nodes ≡ self.now.owner }
         requires within { at.block < self.now.shape.blocks }
@@ -132,7 +141,17 @@ impl Shard {
         (at.block, group)
     }
 
+    /// The place of a key at the cluster's shape.
+    #[inline(always)]
+    pub fn place(&self, key: &HashedKey) -> Place
+        ensures value { result ≡ hash.place self.now.shape.blocks key.now }
+        ensures within { result.block < self.now.shape.blocks }
+    {
+        key.place_by(&self.reciprocal)
+    }
+
     /// The block among the owner's, numbered from 0, and the group of a place, whose block belongs to the owner.
+    #[inline(always)]
     fn cell(&self, at: Place) -> (u16, u8)
         requires owned { at.block % self.now.shape.nodes ≡ self.now.owner }
         requires within { at.block < self.now.shape.blocks }
@@ -144,6 +163,7 @@ impl Shard {
     }
 
     /// The number among the owner's, counted from 0, of a block of the owner's. A product takes less time than a division.
+    #[inline(always)]
     pub(crate) fn cell_block(&self, block: u16) -> u16
         requires { block < self.now.shape.blocks }
         ensures { result ≡ block / self.now.shape.nodes }
