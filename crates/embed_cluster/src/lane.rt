@@ -5,7 +5,7 @@ use crate::key;
 use crate::node::Nodes;
 use crate::owner::OWNER;
 use flow_types::Shape;
-use hash_family::place;
+use hash_family::HashedKey;
 use run_model::Reply;
 use std::sync::Wait;
 use storm_lane::OwnerReaders;
@@ -50,11 +50,11 @@ fn answer<R: Wait>(rt: &R, shape: Shape, lane: &mut Lane, port: u16) -> Option<R
     requires can { CanAnswer shape lane.old }
     ensures same { AreSameReaders lane.old lane.new }
 {
-    let key = key(port);
-    if shape.owner(place(shape, key).block) != OWNER {
+    let key = HashedKey::of(&key(port));
+    if shape.owner(key.place(shape).block) != OWNER {
         return None;
     }
-    Some(lane.readers.path(rt, lane.ingress, key))
+    Some(lane.readers.path(rt, lane.ingress, &key))
 }
 
 /// The lane's readers see all that both nodes have applied.

@@ -11,5 +11,5 @@ mod seats;
 #[cfg(test)]
 mod tests;
 
-pub use path::path_of;
+pub use path::{path_hashed, path_of};
 pub use seats::{TableSeat, ViewSeat};

@@ -14,9 +14,9 @@ ghost use Rattle.packet_path.specs.Fibs.{AreFibsOf, AsksOne};
 ghost use Rattle.packet_path.specs.Path.{home_at, path_by, route_at};
 ghost use Rattle.packet_path.specs.Seated.{HasLookedAt, table_taken};
 
-use crate::path::path_of;
+use crate::path::path_hashed;
 use delta_codec::TableMessage;
-use flow_types::FlowKey;
+use hash_family::HashedKey;
 use out_of_memory::OutOfMemory;
 use partial_fib::FibReader;
 use replica_shard::{Shard, ShardReader, ShardRefused, ShardWriter};
@@ -146,19 +146,19 @@ impl ViewSeat {
     ///
     /// The key's block belongs to the shard's owner. `fibs` has one reader for each node, of the node's FIB of this owner. It
     /// takes no memory, and promises no return.
-    pub fn path<R: Wait>(&mut self, rt: &R, key: FlowKey, fibs: &mut [FibReader]) -> Reply
-        requires owned { IsOwned self.old.shard.shape self.old.shard.owner key }
+    pub fn path<R: Wait>(&mut self, rt: &R, key: &HashedKey, fibs: &mut [FibReader]) -> Reply
+        requires owned { IsOwned self.old.shard.shape self.old.shard.owner key.now }
         requires fibs { AreFibsOf self.old.shard.shape self.old.shard.owner fibs.old }
-        ensures said { result ≡ path_by self.new.shard self.new.list fibs.new key }
+        ensures said { result ≡ path_by self.new.shard self.new.list fibs.new key.now }
         ensures shard { self.new.shard ≡ self.old.shard }
         ensures later { IsPrefix self.old.list self.new.list }
         ensures looks { self.old.loads < self.new.loads }
-        ensures this_look { let seen = (route_at self.new.shard self.new.list key).version in
-            HasLookedAt self.new (home_at self.new.shard self.new.list key) (2 * seen) (2 * seen) }
-        ensures asked { AsksOne (route_at self.new.shard self.new.list key).node fibs.old fibs.new }
+        ensures this_look { let seen = (route_at self.new.shard self.new.list key.now).version in
+            HasLookedAt self.new (home_at self.new.shard self.new.list key.now) (2 * seen) (2 * seen) }
+        ensures asked { AsksOne (route_at self.new.shard self.new.list key.now).node fibs.old fibs.new }
         ensures fibs { AreFibsOf self.old.shard.shape self.old.shard.owner fibs.new }
     {
-        path_of(rt, key, &self.shard, &mut self.reader, fibs)
+        path_hashed(rt, key, &self.shard, &mut self.reader, fibs)
     }
 }
 

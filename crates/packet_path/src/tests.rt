@@ -9,7 +9,7 @@ use block_layout::choose;
 use delta_codec::{FibMessage, FibOp, Message, TableMessage, fits};
 use flow_types::{FlowKey, Record, Shape};
 use group_search::{BlockImage, GroupRecord, Pair, Row, Rows, Served};
-use hash_family::place;
+use hash_family::{HashedKey, place};
 use partial_fib::{Fib, FibReader, FibWriter, share};
 use replica_shard::Shard;
 use run_model::Reply;
@@ -166,13 +166,14 @@ fn walks<R: Abort + Wait>(
         return Err(Fail::from("the owner's block"));
     }
     let group = (at.bucket % 64) as u8;
-    let first = view.path(rt, KEY, fibs);
+    let key = HashedKey::of(&KEY);
+    let first = view.path(rt, &key, fibs);
     takes(rt, shape, table, turn_of(1, group, giving(0)));
-    let moved = view.path(rt, KEY, fibs);
+    let moved = view.path(rt, &key, fibs);
     puts(rt, shape, fib, group);
-    let known = view.path(rt, KEY, fibs);
+    let known = view.path(rt, &key, fibs);
     takes(rt, shape, table, turn_of(2, group, giving_none()?));
-    Ok([first, moved, known, view.path(rt, KEY, fibs)])
+    Ok([first, moved, known, view.path(rt, &key, fibs)])
 }
 
 #[test]

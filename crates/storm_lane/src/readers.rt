@@ -5,7 +5,8 @@ ghost use Rattle.group_search.specs.Owned.{IsOwned};
 ghost use Rattle.packet_path.specs.Fibs.{IsFibOf, turns_at};
 ghost use Rattle.storm_lane.specs.Readers.{AreOthersAsBefore, HaveSeenMore, owner_reply, records_at, seats_of};
 
-use flow_types::{FlowKey, Shape};
+use flow_types::Shape;
+use hash_family::HashedKey;
 use out_of_memory::OutOfMemory;
 use packet_path::{TableSeat, ViewSeat};
 use partial_fib::{FibReader, FibWriter, told};
@@ -68,11 +69,11 @@ impl OwnerReaders {
     /// The path of a packet that enters at the node. The key's block is the owner's, and there are readers of each node.
     ///
     /// It takes no memory, and promises no return.
-    pub fn path<R: Wait>(&mut self, rt: &R, ingress: usize, key: FlowKey) -> Reply
-        requires owned { IsOwned self.old.size self.old.owner key }
+    pub fn path<R: Wait>(&mut self, rt: &R, ingress: usize, key: &HashedKey) -> Reply
+        requires owned { IsOwned self.old.size self.old.owner key.now }
         requires whole { length self.old.views ≡ self.old.size.nodes }
         requires entered { ingress < self.old.size.nodes }
-        ensures said { result ≡ owner_reply self.new ingress key }
+        ensures said { result ≡ owner_reply self.new ingress key.now }
         ensures seats { seats_of self.new ≡ seats_of self.old }
         ensures more { HaveSeenMore self.old self.new }
     {

@@ -9,7 +9,7 @@ ghost use Rattle.storm_lane.specs.Stepping.{Enters, TakesStep, WalksBehind};
 use crate::readers::OwnerReaders;
 use flow_types::laws::numbers_of_a_shape;
 use flow_types::{FlowKey, Shape};
-use hash_family::place;
+use hash_family::HashedKey;
 use out_of_memory::OutOfMemory;
 use packet_reader::Event;
 use run_model::Reply;
@@ -95,15 +95,16 @@ fn answer<R: Wait>(
     ensures said { result ≡ reply_by_lists shape (parts_of (all_seats readers.old)) (lists_of readers.new) ingress key }
 {
     numbers_of_a_shape(shape);
-    let owner = owner_of(shape, key);
-    readers[owner].path(rt, ingress, key)
+    let key = HashedKey::of(&key);
+    let owner = owner_of(shape, &key);
+    readers[owner].path(rt, ingress, &key)
 }
 
 /// The node that owns the key.
-fn owner_of(shape: Shape, key: FlowKey) -> usize
-    ensures { result ≡ owner_of_key shape key }
+fn owner_of(shape: Shape, key: &HashedKey) -> usize
+    ensures { result ≡ owner_of_key shape key.now }
 {
-    usize::from(shape.owner(place(shape, key).block))
+    usize::from(shape.owner(key.place(shape).block))
 }
 
 /// The number of the next packet after the event.

@@ -1,8 +1,11 @@
 -- The reader of the node is of a FIB of the owner's, and no other changes.
-use Rattle.std.proofs.Common.{◌∙◌, ◌%◌, [], sym, ap, arith}
+use Rattle.std.proofs.Common.{ℕ, ◌∙◌, ◌%◌, sym, ap, arith}
 use Rattle.flow_types.specs.Key.{number}
 use Rattle.flow_types.specs.Size.{Size}
 use Rattle.group_search.specs.Home.{Home}
+use Rattle.replica_shard.specs.Seats.{shard_at}
+use Rattle.replica_shard.specs.Shard.{home_in_state}
+use Rattle.replica_shard.specs.Store.{shard_state_of}
 use Rattle.partial_fib.specs.Ends.{shared_after}
 use Rattle.partial_fib.specs.Fib.{FibState}
 use Rattle.packet_path.specs.Path.{home_at}
@@ -12,21 +15,20 @@ use Rattle.packet_path.proofs.path.found_at.Goals as goal
 pub find-requires-clause-within : goal.find-requires-clause-within
 find-requires-clause-within g c =
     let shared = its-fib c.args.shard.now.shape c.args.shard.now.owner c.args.fibs.now c.requires.fibs c.args.node c.requires.in_cluster c.index-fibs-node.result c.index-fibs-node.is in
-    omega (arith, ap (λ (s : Size). s.blocks) shared.size_is, c.home-block.ensures.within)
+    omega (arith, ap (λ (s : Size). s.blocks) shared.size_is, c.home_at-block.ensures.within)
 
 pub find-requires-clause-owned : goal.find-requires-clause-owned
 find-requires-clause-owned g c =
     let shared = its-fib c.args.shard.now.shape c.args.shard.now.owner c.args.fibs.now c.requires.fibs c.args.node c.requires.in_cluster c.index-fibs-node.result c.index-fibs-node.is in
-    let block_is = ap (λ (h : Home). h.block) (c.home-block.ensures.home []) in
     let nodes_is = ap (λ (s : Size). s.nodes) shared.size_is in
-    (λ i. block_is i % nodes_is i) ∙ c.requires.owned ∙ sym shared.owner_is
+    ap (λ (n : ℕ). c.home_at-block.result.0 % n) nodes_is ∙ c.home_at-block.ensures.owned ∙ sym shared.owner_is
 
 pub returns-clause-version : goal.returns-clause-version
 returns-clause-version g c = λ list.
     let new = c.find.new.self in
     let seen = its-seen c.args.shard.now.shape c.args.shard.now.owner c.args.fibs.now c.requires.fibs c.args.node c.requires.in_cluster c.index-fibs-node.result c.index-fibs-node.is new in
     c.find.ensures.version
-    ∙ ap (λ (h : Home). (shared_after new.opening new.turns).versions h) (c.home-block.ensures.home list)
+    ∙ ap (λ (h : Home). (shared_after new.opening new.turns).versions h) (c.home_at-block.ensures.home list ∙ ap (home_in_state (shard_state_of (shard_at c.args.shard.now list))) c.requires.placed)
     ∙ ap (λ (f : FibState). f.versions (home_at c.args.shard.now list c.args.key)) (sym seen)
 
 pub returns-clause-answer : goal.returns-clause-answer

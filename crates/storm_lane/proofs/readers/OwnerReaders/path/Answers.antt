@@ -23,8 +23,8 @@ module _ (g : given.Over) (c : goal.After-as_mut_slice g) where
 
 pub path-requires-clause-owned : goal.path-requires-clause-owned
 path-requires-clause-owned g c =
-    view-owned (was g c) c.self.invariant (whole g c) c.args.ingress (entered g c) c.index_mut-view.result.now c.index_mut-view.ensures.value c.args.key
-    (subst (λ (r : ReadersState). IsOwned r.size r.owner c.args.key) (sym c.self.view_is) c.requires.owned)
+    view-owned (was g c) c.self.invariant (whole g c) c.args.ingress (entered g c) c.index_mut-view.result.now c.index_mut-view.ensures.value c.args.key.now
+    (subst (λ (r : ReadersState). IsOwned r.size r.owner c.args.key.now) (sym c.self.view_is) c.requires.owned)
 
 pub path-requires-clause-fibs : goal.path-requires-clause-fibs
 path-requires-clause-fibs g c =
@@ -43,8 +43,8 @@ module _ (g : given.Over) (c : goal.After-self-2-1 g) where
   in-before : c.args.ingress < before.size.nodes
   in-before = subst (λ (r : ReadersState). c.args.ingress < r.size.nodes) (sym c.self.view_is) c.requires.entered
 
-  asks : AsksOne (route_at c.path.new.self.shard c.path.new.self.list c.args.key).node before.fibs c.path.new.fibs
-  asks = subst (λ (rs : List ReaderState). AsksOne (route_at c.path.new.self.shard c.path.new.self.list c.args.key).node rs c.path.new.fibs) c.as_mut_slice.ensures.value c.path.ensures.asked
+  asks : AsksOne (route_at c.path.new.self.shard c.path.new.self.list c.args.key.now).node before.fibs c.path.new.fibs
+  asks = subst (λ (rs : List ReaderState). AsksOne (route_at c.path.new.self.shard c.path.new.self.list c.args.key.now).node rs c.path.new.fibs) c.as_mut_slice.ensures.value c.path.ensures.asked
 
   put : new_fibs ≡ c.path.new.fibs
   put = all-new c.self.inside.fibs.items c.path.new.fibs c.self.inside.fibs.len (c.path.ensures.asked.many ∙ c.as_mut_slice.ensures.len)
@@ -52,22 +52,22 @@ module _ (g : given.Over) (c : goal.After-self-2-1 g) where
 pub invariant_of-self : goal.invariant_of-self
 invariant_of-self g c =
     path-owners (before g c) c.self.invariant (all-before g c) c.args.ingress (in-before g c) c.index_mut-view.result.now c.index_mut-view.ensures.value c.path.new.self c.path.ensures.shard
-    (route_at c.path.new.self.shard c.path.new.self.list c.args.key).node c.path.new.fibs (new_fibs g c) (put g c) (asks g c)
+    (route_at c.path.new.self.shard c.path.new.self.list c.args.key.now).node c.path.new.fibs (new_fibs g c) (put g c) (asks g c)
 
 pub returns-clause-seats : goal.returns-clause-seats
 returns-clause-seats g c =
     path-seats (before g c) c.self.invariant (all-before g c) c.args.ingress (in-before g c) c.index_mut-view.result.now c.index_mut-view.ensures.value c.path.new.self c.path.ensures.shard
-    (route_at c.path.new.self.shard c.path.new.self.list c.args.key).node c.path.new.fibs (new_fibs g c) (put g c) (asks g c)
+    (route_at c.path.new.self.shard c.path.new.self.list c.args.key.now).node c.path.new.fibs (new_fibs g c) (put g c) (asks g c)
     ∙ ap seats_of c.self.view_is
 
 pub returns-clause-more : goal.returns-clause-more
 returns-clause-more g c =
     subst (λ (r : ReadersState). HaveSeenMore r (record { size = c.self.inside.shape; owner = c.self.inside.owner; views = slice_set c.self.inside.views.items c.args.ingress c.path.new.self; fibs = new_fibs g c })) c.self.view_is
     (path-more (before g c) c.self.invariant (all-before g c) c.args.ingress (in-before g c) c.index_mut-view.result.now c.index_mut-view.ensures.value c.path.new.self c.path.ensures.shard
-    (route_at c.path.new.self.shard c.path.new.self.list c.args.key).node c.path.new.fibs (new_fibs g c) (put g c) (asks g c) c.path.ensures.later)
+    (route_at c.path.new.self.shard c.path.new.self.list c.args.key.now).node c.path.new.fibs (new_fibs g c) (put g c) (asks g c) c.path.ensures.later)
 
 pub returns-clause-said : goal.returns-clause-said
 returns-clause-said g c =
     c.path.ensures.said
     ∙ path-gives (before g c) c.self.invariant (all-before g c) c.args.ingress (in-before g c) c.index_mut-view.result.now c.index_mut-view.ensures.value c.path.new.self c.path.ensures.shard
-    (route_at c.path.new.self.shard c.path.new.self.list c.args.key).node c.path.new.fibs (new_fibs g c) (put g c) (asks g c) c.args.key
+    (route_at c.path.new.self.shard c.path.new.self.list c.args.key.now).node c.path.new.fibs (new_fibs g c) (put g c) (asks g c) c.args.key.now
