@@ -8,8 +8,7 @@ ghost use Rattle.replica_shard.specs.Shard.{free_rows, home_in_state, route_in_s
 ghost use Rattle.replica_shard.specs.Store.{shard_state_of};
 
 use delta_codec::TableMessage;
-use flow_types::FlowKey;
-use hash_family::Place;
+use hash_family::{HashedKey, Place};
 use out_of_memory::OutOfMemory;
 use replica_shard::{Route, Shard, ShardPlan, ShardRefused, ShardWriter};
 use std::alloc::Global;
@@ -61,11 +60,12 @@ impl Table {
         self.shard.apply(&mut self.writer, message)
     }
 
-    /// Where the table sends a key whose place is known. The place's block belongs to the owner. Nothing changes.
-    pub fn route_at(&mut self, at: Place, key: FlowKey) -> Route
+    /// Where the table sends a key that is hashed already and whose place is known. The place's block belongs to the owner.
+    /// Nothing changes.
+    pub fn route_at(&mut self, at: Place, key: &HashedKey) -> Route
         requires owned { at.block % self.old.size.nodes ≡ self.old.owner }
         requires within { at.block < self.old.size.blocks }
-        ensures value { result ≡ route_in_state (shard_state_of self.old) at key }
+        ensures value { result ≡ route_in_state (shard_state_of self.old) at key.now }
         ensures kept { self.new ≡ self.old }
     {
         self.shard.route_own_at(&mut self.writer, at, key)

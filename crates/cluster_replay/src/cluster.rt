@@ -11,7 +11,7 @@ ghost use Rattle.rib_owner.specs.Turn.{node_entered};
 
 use crate::node::Node;
 use flow_types::{Flow, FlowKey, Shape};
-use hash_family::place;
+use hash_family::{HashedKey, place};
 use out_of_memory::OutOfMemory;
 use packet_reader::Event;
 use partial_fib::FibSeen;
@@ -108,11 +108,12 @@ impl Cluster {
             self.old.cluster.nodes ingress key }
         ensures kept { self.new ≡ self.old }
     {
-        let at = place(self.shape, key);
+        let hashed = HashedKey::of(&key);
+        let at = hashed.place(self.shape);
         let owner = usize::from(self.shape.owner(at.block));
         let sender = &mut self.nodes[usize::from(ingress)];
         let (block, group) = sender.home_at(owner, at);
-        let route = sender.route_at(owner, at, key);
+        let route = sender.route_at(owner, at, &hashed);
         let Some(node) = route.node else {
             return Reply::Nowhere {
                 seen: route.version,

@@ -7,8 +7,7 @@ ghost use Rattle.cluster_replay.specs.Cluster.{after_fib, after_table, fib_in, n
 
 use cluster_open::{NodeParts, Table};
 use delta_codec::{FibMessage, TableMessage};
-use flow_types::FlowKey;
-use hash_family::Place;
+use hash_family::{HashedKey, Place};
 use out_of_memory::OutOfMemory;
 use partial_fib::{Fib, FibRefused};
 use replica_shard::{Route, ShardRefused};
@@ -75,13 +74,14 @@ impl Node {
         self.tables[owner].home_at(at)
     }
 
-    /// Where the table of the owner of the place's block sends a key whose place is known. Nothing changes.
-    pub(crate) fn route_at(&mut self, owner: usize, at: Place, key: FlowKey) -> Route
+    /// Where the table of the owner of the place's block sends a key that is hashed already and whose
+    /// place is known. Nothing changes.
+    pub(crate) fn route_at(&mut self, owner: usize, at: Place, key: &HashedKey) -> Route
         requires there { owner < length self.old.shards }
         requires owned { at.block % (shard_in (node_state_of self.old) owner).size.nodes ≡
             (shard_in (node_state_of self.old) owner).owner }
         requires within { at.block < (shard_in (node_state_of self.old) owner).size.blocks }
-        ensures value { result ≡ route_in_state (shard_in (node_state_of self.old) owner) at key }
+        ensures value { result ≡ route_in_state (shard_in (node_state_of self.old) owner) at key.now }
         ensures kept { self.new ≡ self.old }
     {
         self.tables[owner].route_at(at, key)

@@ -1,7 +1,9 @@
 use Rattle.std.proofs.Common.{◌≡◌, ◌∙◌, ◌<◌, ℕ, List, length, map, get_or, set, sym, ap, subst, arith, rules}
 use Rattle.std.proofs.lemmas.List.{set-get_or}
 use Rattle.flow_types.specs.Key.{IsKeyValue}
-use Rattle.cluster_replay.specs.Cluster.{IsCluster, NodeStore, node_state_of}
+use Rattle.hash_family.specs.Hash.{place}
+use Rattle.replica_shard.specs.Shard.{route_in_state}
+use Rattle.cluster_replay.specs.Cluster.{IsCluster, NodeStore, node_state_of, shard_in}
 use Rattle.cluster_replay.proofs.HeldRouting.{fib_index, find_owned, find_within, ingress_index, nowhere, owned, reply, shard_index, to_index, within}
 use Rattle.cluster_replay.proofs.cluster.Cluster.send.Goals as goal
 
@@ -17,75 +19,75 @@ pub index_mut-sender-requires : goal.index_mut-sender-requires
 index_mut-sender-requires c =
     let i = c.self.inside in
     let value : IsKeyValue c.args.key = search rules in
-    let low = ingress_index i.shape i.flows.items i.owners.items i.nodes.items c.self.invariant i.lacks_memory c.args.self.now c.self.view_is c.args.key value c.args.ingress c.requires c.place-at.result c.place-at.ensures.value c.from-owner.result (c.from-owner.ensures ∙ c.owner.ensures.value) in
+    let low = ingress_index i.shape i.flows.items i.owners.items i.nodes.items c.self.invariant i.lacks_memory c.args.self.now c.self.view_is c.args.key value c.args.ingress c.requires c.place-at.result (c.place-at.ensures.value ∙ ap (place i.shape.blocks) c.of-hashed.ensures) c.from-owner.result (c.from-owner.ensures ∙ c.owner.ensures.value) in
     omega (arith, low, c.from.ensures)
 
 pub home_at-block-requires-clause-there : goal.home_at-block-requires-clause-there
 home_at-block-requires-clause-there c =
     let i = c.self.inside in
     let value : IsKeyValue c.args.key = search rules in
-    shard_index i.shape i.flows.items i.owners.items i.nodes.items c.self.invariant i.lacks_memory c.args.self.now c.self.view_is c.args.key value c.args.ingress c.requires c.place-at.result c.place-at.ensures.value c.from-owner.result (c.from-owner.ensures ∙ c.owner.ensures.value)
+    shard_index i.shape i.flows.items i.owners.items i.nodes.items c.self.invariant i.lacks_memory c.args.self.now c.self.view_is c.args.key value c.args.ingress c.requires c.place-at.result (c.place-at.ensures.value ∙ ap (place i.shape.blocks) c.of-hashed.ensures) c.from-owner.result (c.from-owner.ensures ∙ c.owner.ensures.value)
     c.index_mut-sender.result.now (rw (← c.from.ensures) c.index_mut-sender.ensures.value)
 
 pub home_at-block-requires-clause-owned : goal.home_at-block-requires-clause-owned
 home_at-block-requires-clause-owned c =
     let i = c.self.inside in
     let value : IsKeyValue c.args.key = search rules in
-    owned i.shape i.flows.items i.owners.items i.nodes.items c.self.invariant i.lacks_memory c.args.self.now c.self.view_is c.args.key value c.args.ingress c.requires c.place-at.result c.place-at.ensures.value c.from-owner.result (c.from-owner.ensures ∙ c.owner.ensures.value)
+    owned i.shape i.flows.items i.owners.items i.nodes.items c.self.invariant i.lacks_memory c.args.self.now c.self.view_is c.args.key value c.args.ingress c.requires c.place-at.result (c.place-at.ensures.value ∙ ap (place i.shape.blocks) c.of-hashed.ensures) c.from-owner.result (c.from-owner.ensures ∙ c.owner.ensures.value)
     c.index_mut-sender.result.now (rw (← c.from.ensures) c.index_mut-sender.ensures.value)
 
 pub home_at-block-requires-clause-within : goal.home_at-block-requires-clause-within
 home_at-block-requires-clause-within c =
     let i = c.self.inside in
     let value : IsKeyValue c.args.key = search rules in
-    within i.shape i.flows.items i.owners.items i.nodes.items c.self.invariant i.lacks_memory c.args.self.now c.self.view_is c.args.key value c.args.ingress c.requires c.place-at.result c.place-at.ensures.value c.from-owner.result (c.from-owner.ensures ∙ c.owner.ensures.value)
+    within i.shape i.flows.items i.owners.items i.nodes.items c.self.invariant i.lacks_memory c.args.self.now c.self.view_is c.args.key value c.args.ingress c.requires c.place-at.result (c.place-at.ensures.value ∙ ap (place i.shape.blocks) c.of-hashed.ensures) c.from-owner.result (c.from-owner.ensures ∙ c.owner.ensures.value)
     c.index_mut-sender.result.now (rw (← c.from.ensures) c.index_mut-sender.ensures.value)
 
 pub route_at-route-requires-clause-there : goal.route_at-route-requires-clause-there
 route_at-route-requires-clause-there c =
     let i = c.self.inside in
     let value : IsKeyValue c.args.key = search rules in
-    shard_index i.shape i.flows.items i.owners.items i.nodes.items c.self.invariant i.lacks_memory c.args.self.now c.self.view_is c.args.key value c.args.ingress c.requires c.place-at.result c.place-at.ensures.value c.from-owner.result (c.from-owner.ensures ∙ c.owner.ensures.value)
+    shard_index i.shape i.flows.items i.owners.items i.nodes.items c.self.invariant i.lacks_memory c.args.self.now c.self.view_is c.args.key value c.args.ingress c.requires c.place-at.result (c.place-at.ensures.value ∙ ap (place i.shape.blocks) c.of-hashed.ensures) c.from-owner.result (c.from-owner.ensures ∙ c.owner.ensures.value)
     c.index_mut-sender.result.now (rw (← c.from.ensures) c.index_mut-sender.ensures.value)
 
 pub route_at-route-requires-clause-owned : goal.route_at-route-requires-clause-owned
 route_at-route-requires-clause-owned c =
     let i = c.self.inside in
     let value : IsKeyValue c.args.key = search rules in
-    owned i.shape i.flows.items i.owners.items i.nodes.items c.self.invariant i.lacks_memory c.args.self.now c.self.view_is c.args.key value c.args.ingress c.requires c.place-at.result c.place-at.ensures.value c.from-owner.result (c.from-owner.ensures ∙ c.owner.ensures.value)
+    owned i.shape i.flows.items i.owners.items i.nodes.items c.self.invariant i.lacks_memory c.args.self.now c.self.view_is c.args.key value c.args.ingress c.requires c.place-at.result (c.place-at.ensures.value ∙ ap (place i.shape.blocks) c.of-hashed.ensures) c.from-owner.result (c.from-owner.ensures ∙ c.owner.ensures.value)
     c.index_mut-sender.result.now (rw (← c.from.ensures) c.index_mut-sender.ensures.value)
 
 pub route_at-route-requires-clause-within : goal.route_at-route-requires-clause-within
 route_at-route-requires-clause-within c =
     let i = c.self.inside in
     let value : IsKeyValue c.args.key = search rules in
-    within i.shape i.flows.items i.owners.items i.nodes.items c.self.invariant i.lacks_memory c.args.self.now c.self.view_is c.args.key value c.args.ingress c.requires c.place-at.result c.place-at.ensures.value c.from-owner.result (c.from-owner.ensures ∙ c.owner.ensures.value)
+    within i.shape i.flows.items i.owners.items i.nodes.items c.self.invariant i.lacks_memory c.args.self.now c.self.view_is c.args.key value c.args.ingress c.requires c.place-at.result (c.place-at.ensures.value ∙ ap (place i.shape.blocks) c.of-hashed.ensures) c.from-owner.result (c.from-owner.ensures ∙ c.owner.ensures.value)
     c.index_mut-sender.result.now (rw (← c.from.ensures) c.index_mut-sender.ensures.value)
 
 pub returns-in_default-clause-reply : goal.returns-in_default-clause-reply
 returns-in_default-clause-reply c =
     let i = c.self.inside in
     let value : IsKeyValue c.args.key = search rules in
-    nowhere i.shape i.flows.items i.owners.items i.nodes.items c.self.invariant i.lacks_memory c.args.self.now c.self.view_is c.args.key value c.args.ingress c.requires c.place-at.result c.place-at.ensures.value c.from-owner.result (c.from-owner.ensures ∙ c.owner.ensures.value)
+    nowhere i.shape i.flows.items i.owners.items i.nodes.items c.self.invariant i.lacks_memory c.args.self.now c.self.view_is c.args.key value c.args.ingress c.requires c.place-at.result (c.place-at.ensures.value ∙ ap (place i.shape.blocks) c.of-hashed.ensures) c.from-owner.result (c.from-owner.ensures ∙ c.owner.ensures.value)
     c.index_mut-sender.result.now (rw (← c.from.ensures) c.index_mut-sender.ensures.value)
-    c.route_at-route.result c.route_at-route.ensures.value c.in_default.is
+    c.route_at-route.result (c.route_at-route.ensures.value ∙ ap (route_in_state (shard_in (node_state_of c.index_mut-sender.result.now) c.from-owner.result) c.place-at.result) c.of-hashed.ensures) c.in_default.is
 
 pub index-requires : goal.index-requires
 index-requires c =
     let i = c.self.inside in
     let value : IsKeyValue c.args.key = search rules in
-    let low = to_index i.shape i.flows.items i.owners.items i.nodes.items c.self.invariant i.lacks_memory c.args.self.now c.self.view_is c.args.key value c.args.ingress c.requires c.place-at.result c.place-at.ensures.value c.from-owner.result (c.from-owner.ensures ∙ c.owner.ensures.value)
+    let low = to_index i.shape i.flows.items i.owners.items i.nodes.items c.self.invariant i.lacks_memory c.args.self.now c.self.view_is c.args.key value c.args.ingress c.requires c.place-at.result (c.place-at.ensures.value ∙ ap (place i.shape.blocks) c.of-hashed.ensures) c.from-owner.result (c.from-owner.ensures ∙ c.owner.ensures.value)
     c.index_mut-sender.result.now (rw (← c.from.ensures) c.index_mut-sender.ensures.value)
-    c.route_at-route.result c.route_at-route.ensures.value c.in-Some.node c.in-Some.is in
+    c.route_at-route.result (c.route_at-route.ensures.value ∙ ap (route_in_state (shard_in (node_state_of c.index_mut-sender.result.now) c.from-owner.result) c.place-at.result) c.of-hashed.ensures) c.in-Some.node c.in-Some.is in
     omega (arith, low, c.from-2.ensures)
 
 pub index-requires-2 : goal.index-requires-2
 index-requires-2 c =
     let i = c.self.inside in
     let value : IsKeyValue c.args.key = search rules in
-    let low = subst (λ (n : NodeStore). c.from-owner.result < length n.fibs) (sym c.behind-self.view_is) (fib_index i.shape i.flows.items i.owners.items i.nodes.items c.self.invariant i.lacks_memory c.args.self.now c.self.view_is c.args.key value c.args.ingress c.requires c.place-at.result c.place-at.ensures.value c.from-owner.result (c.from-owner.ensures ∙ c.owner.ensures.value)
+    let low = subst (λ (n : NodeStore). c.from-owner.result < length n.fibs) (sym c.behind-self.view_is) (fib_index i.shape i.flows.items i.owners.items i.nodes.items c.self.invariant i.lacks_memory c.args.self.now c.self.view_is c.args.key value c.args.ingress c.requires c.place-at.result (c.place-at.ensures.value ∙ ap (place i.shape.blocks) c.of-hashed.ensures) c.from-owner.result (c.from-owner.ensures ∙ c.owner.ensures.value)
     c.index_mut-sender.result.now (rw (← c.from.ensures) c.index_mut-sender.ensures.value)
-    c.route_at-route.result c.route_at-route.ensures.value c.in-Some.node c.in-Some.is
+    c.route_at-route.result (c.route_at-route.ensures.value ∙ ap (route_in_state (shard_in (node_state_of c.index_mut-sender.result.now) c.from-owner.result) c.place-at.result) c.of-hashed.ensures) c.in-Some.node c.in-Some.is
     c.index.result.now
     (rw (← c.from-2.ensures) (read_here i.nodes.items c.from.result c.from-2.result c.index_mut-sender.result.now c.route_at-route.new.self c.index.result.now c.index_mut-sender.ensures.value c.route_at-route.ensures.kept c.index.ensures))) in
     omega (arith, low)
@@ -94,9 +96,9 @@ pub find-found-requires-clause-within : goal.find-found-requires-clause-within
 find-found-requires-clause-within c =
     let i = c.self.inside in
     let value : IsKeyValue c.args.key = search rules in
-    find_within i.shape i.flows.items i.owners.items i.nodes.items c.self.invariant i.lacks_memory c.args.self.now c.self.view_is c.args.key value c.args.ingress c.requires c.place-at.result c.place-at.ensures.value c.from-owner.result (c.from-owner.ensures ∙ c.owner.ensures.value)
+    find_within i.shape i.flows.items i.owners.items i.nodes.items c.self.invariant i.lacks_memory c.args.self.now c.self.view_is c.args.key value c.args.ingress c.requires c.place-at.result (c.place-at.ensures.value ∙ ap (place i.shape.blocks) c.of-hashed.ensures) c.from-owner.result (c.from-owner.ensures ∙ c.owner.ensures.value)
     c.index_mut-sender.result.now (rw (← c.from.ensures) c.index_mut-sender.ensures.value)
-    c.route_at-route.result c.route_at-route.ensures.value c.in-Some.node c.in-Some.is
+    c.route_at-route.result (c.route_at-route.ensures.value ∙ ap (route_in_state (shard_in (node_state_of c.index_mut-sender.result.now) c.from-owner.result) c.place-at.result) c.of-hashed.ensures) c.in-Some.node c.in-Some.is
     c.index.result.now
     (rw (← c.from-2.ensures) (read_here i.nodes.items c.from.result c.from-2.result c.index_mut-sender.result.now c.route_at-route.new.self c.index.result.now c.index_mut-sender.ensures.value c.route_at-route.ensures.kept c.index.ensures))
     c.index-2.result.now (subst (λ (n : NodeStore). c.index-2.result.now ≡ get_or n.fibs c.from-owner.result c.index-2.result.now) c.behind-self.view_is c.index-2.ensures)
@@ -106,9 +108,9 @@ pub find-found-requires-clause-owned : goal.find-found-requires-clause-owned
 find-found-requires-clause-owned c =
     let i = c.self.inside in
     let value : IsKeyValue c.args.key = search rules in
-    find_owned i.shape i.flows.items i.owners.items i.nodes.items c.self.invariant i.lacks_memory c.args.self.now c.self.view_is c.args.key value c.args.ingress c.requires c.place-at.result c.place-at.ensures.value c.from-owner.result (c.from-owner.ensures ∙ c.owner.ensures.value)
+    find_owned i.shape i.flows.items i.owners.items i.nodes.items c.self.invariant i.lacks_memory c.args.self.now c.self.view_is c.args.key value c.args.ingress c.requires c.place-at.result (c.place-at.ensures.value ∙ ap (place i.shape.blocks) c.of-hashed.ensures) c.from-owner.result (c.from-owner.ensures ∙ c.owner.ensures.value)
     c.index_mut-sender.result.now (rw (← c.from.ensures) c.index_mut-sender.ensures.value)
-    c.route_at-route.result c.route_at-route.ensures.value c.in-Some.node c.in-Some.is
+    c.route_at-route.result (c.route_at-route.ensures.value ∙ ap (route_in_state (shard_in (node_state_of c.index_mut-sender.result.now) c.from-owner.result) c.place-at.result) c.of-hashed.ensures) c.in-Some.node c.in-Some.is
     c.index.result.now
     (rw (← c.from-2.ensures) (read_here i.nodes.items c.from.result c.from-2.result c.index_mut-sender.result.now c.route_at-route.new.self c.index.result.now c.index_mut-sender.ensures.value c.route_at-route.ensures.kept c.index.ensures))
     c.index-2.result.now (subst (λ (n : NodeStore). c.index-2.result.now ≡ get_or n.fibs c.from-owner.result c.index-2.result.now) c.behind-self.view_is c.index-2.ensures)
@@ -125,9 +127,9 @@ returns-clause-reply c =
     let i = c.self.inside in
     let value : IsKeyValue c.args.key = search rules in
     c.answer.ensures
-    ∙ reply i.shape i.flows.items i.owners.items i.nodes.items c.self.invariant i.lacks_memory c.args.self.now c.self.view_is c.args.key value c.args.ingress c.requires c.place-at.result c.place-at.ensures.value c.from-owner.result (c.from-owner.ensures ∙ c.owner.ensures.value)
+    ∙ reply i.shape i.flows.items i.owners.items i.nodes.items c.self.invariant i.lacks_memory c.args.self.now c.self.view_is c.args.key value c.args.ingress c.requires c.place-at.result (c.place-at.ensures.value ∙ ap (place i.shape.blocks) c.of-hashed.ensures) c.from-owner.result (c.from-owner.ensures ∙ c.owner.ensures.value)
     c.index_mut-sender.result.now (rw (← c.from.ensures) c.index_mut-sender.ensures.value)
-    c.route_at-route.result c.route_at-route.ensures.value c.in-Some.node c.in-Some.is
+    c.route_at-route.result (c.route_at-route.ensures.value ∙ ap (route_in_state (shard_in (node_state_of c.index_mut-sender.result.now) c.from-owner.result) c.place-at.result) c.of-hashed.ensures) c.in-Some.node c.in-Some.is
     c.index.result.now
     (rw (← c.from-2.ensures) (read_here i.nodes.items c.from.result c.from-2.result c.index_mut-sender.result.now c.route_at-route.new.self c.index.result.now c.index_mut-sender.ensures.value c.route_at-route.ensures.kept c.index.ensures))
     c.index-2.result.now (subst (λ (n : NodeStore). c.index-2.result.now ≡ get_or n.fibs c.from-owner.result c.index-2.result.now) c.behind-self.view_is c.index-2.ensures)
