@@ -1,5 +1,7 @@
 -- The faults that refusals of rows and of builds are.
-use Rattle.std.specs.Prelude.{◌≡◌, Option, Some, None, IfSome, option_map}
+use Rattle.std.specs.Prelude.{ℕ, ◌≡◌, List, ◌++◌, codes, Option, Some, None, IfSome, option_map}
+use Rattle.std.specs.Fmt.{decimal}
+use Rattle.flow_types.specs.Refusal.{bad_row_text}
 use Rattle.row_fields.specs.declared.refused.RowRefused.{RowRefused}
 use Rattle.row_fields.specs.declared.refused.RowRefused.TheVariants as row
 use Rattle.group_search.specs.Build.{PastLimit}
@@ -35,3 +37,10 @@ fault_of_build refused.OutOfMemory = OutOfMemory
 -- the fault is that of what is past a limit, or want of memory
 abbrev pub IsCausedBy : Option PastLimit → InputFault → Type 0
 IsCausedBy past fault = IfSome (named_fault fault) (λ named. option_map fault_of_limit past ≡ Some named)
+
+-- how a fault is printed
+abbrev pub fault_text : InputFault → List ℕ
+fault_text (Bad bad) = bad_row_text bad
+fault_text (BlockFull block) = codes "block " ++ decimal block ++ codes " has too many flows"
+fault_text (RowsFull block) = codes "block " ++ decimal block ++ codes " needs too many rows"
+fault_text OutOfMemory = codes "out of memory"

@@ -2,6 +2,8 @@ use flow_reader::RowRefused;
 use flow_types::BadRow;
 use out_of_memory::OutOfMemory;
 use setsep_build::BuildRefused;
+use std::error::Error;
+use std::fmt;
 
 /// Why an input has no output.
 #[derive(Clone, Copy, Debug, PartialEq, Eq)]
@@ -22,6 +24,24 @@ pub enum InputFault {
     /// Memory that the call asked for was not there.
     OutOfMemory,
 }
+
+impl fmt::Display for InputFault {
+    ghost use Rattle.std.specs.Prelude.{Some};
+    ghost use Rattle.cluster_open.specs.Limits.{fault_text};
+
+    ghost output = { λ fault. Some (fault_text fault) };
+
+    fn fmt<W: fmt::Write>(&self, f: &mut fmt::Formatter<W>) -> fmt::Result {
+        match self {
+            InputFault::Bad(bad) => write!(f, "{bad}"),
+            InputFault::BlockFull { block } => write!(f, "block {block} has too many flows"),
+            InputFault::RowsFull { block } => write!(f, "block {block} needs too many rows"),
+            InputFault::OutOfMemory => f.write_str("out of memory"),
+        }
+    }
+}
+
+impl Error for InputFault {}
 
 impl From<RowRefused> for InputFault {
     ghost use Rattle.std.specs.Prelude.{◌≡◌};

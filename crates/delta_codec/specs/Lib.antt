@@ -13,3 +13,4 @@ pub mod Op
 pub mod Messages
 pub mod Journals
 pub mod Routed
+pub mod RefusalTexts

@@ -1,3 +1,6 @@
+use std::error::Error;
+use std::fmt;
+
 /// The field of a message that breaks its rule.
 #[derive(Clone, Copy, Debug, PartialEq, Eq, Hash)]
 pub enum BadField {
@@ -21,6 +24,27 @@ pub enum BadField {
     Node,
 }
 
+impl fmt::Display for BadField {
+    ghost use Rattle.std.specs.Prelude.{Some};
+    ghost use Rattle.delta_codec.specs.RefusalTexts.{field_text};
+
+    ghost output = { λ field. Some (field_text field) };
+
+    fn fmt<W: fmt::Write>(&self, f: &mut fmt::Formatter<W>) -> fmt::Result {
+        f.write_str(match self {
+            BadField::Kind => "kind",
+            BadField::Owner => "owner",
+            BadField::Turn => "turn",
+            BadField::Block => "block",
+            BadField::Group => "group",
+            BadField::Body => "body",
+            BadField::Count => "number of rows",
+            BadField::Order => "order of rows",
+            BadField::Node => "node",
+        })
+    }
+}
+
 /// Why no message begins the octets.
 #[derive(Clone, Copy, Debug, PartialEq, Eq, Hash)]
 pub enum DecodeRefused {
@@ -34,3 +58,19 @@ pub enum DecodeRefused {
         why: BadField,
     },
 }
+
+impl fmt::Display for DecodeRefused {
+    ghost use Rattle.std.specs.Prelude.{Some};
+    ghost use Rattle.delta_codec.specs.RefusalTexts.{refusal_text};
+
+    ghost output = { λ refusal. Some (refusal_text refusal) };
+
+    fn fmt<W: fmt::Write>(&self, f: &mut fmt::Formatter<W>) -> fmt::Result {
+        match self {
+            DecodeRefused::Short => f.write_str("the octets end before the message does"),
+            DecodeRefused::Bad { at, why } => write!(f, "octet {at}: a bad {why}"),
+        }
+    }
+}
+
+impl Error for DecodeRefused {}

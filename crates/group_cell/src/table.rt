@@ -6,6 +6,8 @@ ghost use Rattle.group_cell.specs.Plays.{writer_view};
 use crate::layout::PLACES;
 use crate::plays::{CellSeat, Cells};
 use flow_types::Shape;
+use std::error::Error;
+use std::fmt;
 
 mod decoding;
 mod laying;
@@ -67,3 +69,15 @@ pub struct Changing {
     /// What its second load found, where the first was even; else the first.
     pub second: u64,
 }
+
+impl fmt::Display for Changing {
+    ghost use Rattle.std.specs.Prelude.{codes, Some};
+
+    ghost output = { λ _. Some (codes "the group is being rewritten") };
+
+    fn fmt<W: fmt::Write>(&self, f: &mut fmt::Formatter<W>) -> fmt::Result {
+        f.write_str("the group is being rewritten")
+    }
+}
+
+impl Error for Changing {}

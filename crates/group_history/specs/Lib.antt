@@ -4,3 +4,4 @@ pub mod Kept
 pub mod History
 pub mod Routes
 pub mod Acceptance
+pub mod Refused

@@ -1,5 +1,7 @@
 use out_of_memory::OutOfMemory;
 use std::alloc::AllocError;
+use std::error::Error;
+use std::fmt;
 
 /// Why an owner refuses an update: the first of these that holds. After a refusal nothing has changed.
 #[derive(Clone, Copy, Debug, PartialEq, Eq, Hash)]
@@ -28,6 +30,31 @@ pub enum UpdateRefused {
     /// Memory that the owner asked for was not there. It asks after the other cases and before any change.
     OutOfMemory,
 }
+
+impl fmt::Display for UpdateRefused {
+    ghost use Rattle.std.specs.Prelude.{Some};
+    ghost use Rattle.group_history.specs.Refused.{refusal_text};
+
+    ghost output = { λ refusal. Some (refusal_text refusal) };
+
+    fn fmt<W: fmt::Write>(&self, f: &mut fmt::Formatter<W>) -> fmt::Result {
+        match self {
+            UpdateRefused::Spent { limit } => write!(f, "all {limit} turns are taken"),
+            UpdateRefused::Absent => f.write_str("no flow has the key"),
+            UpdateRefused::BlockFull { block } => {
+                write!(f, "block {block} has as many keys as it may")
+            }
+            UpdateRefused::RowsFull {
+                block,
+                needed,
+                free,
+            } => write!(f, "rows needed in block {block}: {needed}, free: {free}"),
+            UpdateRefused::OutOfMemory => f.write_str("out of memory"),
+        }
+    }
+}
+
+impl Error for UpdateRefused {}
 
 impl From<AllocError> for UpdateRefused {
     ghost use Rattle.std.specs.Prelude.{◌≡◌};

@@ -14,6 +14,8 @@ use crate::record::GroupRecord;
 use crate::rows::Rows;
 use crate::search::least;
 use crate::served::Served;
+use std::error::Error;
+use std::fmt;
 
 /// The entries of a group are too many for rows, and no indexes serve them.
 #[derive(Clone, Copy, Debug, PartialEq, Eq, Hash)]
@@ -21,6 +23,19 @@ pub struct TooMany {
     /// How many entries there are.
     pub keys: u16,
 }
+
+impl fmt::Display for TooMany {
+    ghost use Rattle.std.specs.Fmt.{decimal};
+    ghost use Rattle.std.specs.Prelude.{◌++◌, codes, Some};
+
+    ghost output = { λ refusal. Some (decimal refusal.keys ++ codes " keys that no indexes serve") };
+
+    fn fmt<W: fmt::Write>(&self, f: &mut fmt::Formatter<W>) -> fmt::Result {
+        write!(f, "{} keys that no indexes serve", self.keys)
+    }
+}
+
+impl Error for TooMany {}
 
 /// Whether for each value bit below `bits` some index serves the entries.
 pub fn separable(entries: &[Entry], bits: u8) -> bool

@@ -6,3 +6,4 @@ pub mod Ends
 pub mod History
 pub mod Rule
 pub mod Laws
+pub mod Refused

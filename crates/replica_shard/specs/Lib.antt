@@ -3,3 +3,4 @@ pub mod Store
 pub mod Turns
 pub mod Owners
 pub mod Seats
+pub mod Refused

@@ -1,3 +1,6 @@
+use std::error::Error;
+use std::fmt;
+
 /// Why a shard doesn't take a message. The causes are tested in this order, and after each the shard is as it was.
 #[derive(Clone, Copy, Debug, PartialEq, Eq, Hash)]
 pub enum ShardRefused {
@@ -24,3 +27,25 @@ pub enum ShardRefused {
         free: u8,
     },
 }
+
+impl fmt::Display for ShardRefused {
+    ghost use Rattle.std.specs.Prelude.{Some};
+    ghost use Rattle.replica_shard.specs.Refused.{refusal_text};
+
+    ghost output = { λ refusal. Some (refusal_text refusal) };
+
+    fn fmt<W: fmt::Write>(&self, f: &mut fmt::Formatter<W>) -> fmt::Result {
+        match self {
+            ShardRefused::Foreign { owner } => write!(f, "a message of owner {owner}"),
+            ShardRefused::Repeat { have } => {
+                write!(f, "a turn of the first {have}, which are taken")
+            }
+            ShardRefused::Early { have } => write!(f, "a turn too early: {have} are taken"),
+            ShardRefused::RowsFull { needed, free } => {
+                write!(f, "rows needed: {needed}, free: {free}")
+            }
+        }
+    }
+}
+
+impl Error for ShardRefused {}
