@@ -10,6 +10,7 @@ use Rattle.group_search.specs.Build.{PastLimit, past_limit}
 use Rattle.group_search.specs.Build.PastLimit.{TooManyFlows, TooManyRows}
 use Rattle.packet_reader.specs.declared.event.Event.{Event}
 use Rattle.packet_reader.specs.declared.mode.Mode.{Mode}
+use Rattle.packet_reader.specs.Events.{events_in}
 use Rattle.packet_reader.specs.FirstBad.{ScriptLaw}
 use Rattle.packet_reader.specs.Script.{script_of}
 use Rattle.packet_reader.proofs.FirstBadFacts.{script-law}
@@ -28,9 +29,9 @@ module _ (mode : Mode) (all : List Row) where
   law = opening-law all
 
   script_in : Opening → Result (List Event) BadRow
-  script_in opening = script_of mode opening.shape opening.begin_row (drop opening.begin_row all)
+  script_in opening = script_of (events_in mode opening.shape) opening.begin_row (drop opening.begin_row all)
 
-  script_law : (opening : Opening) → ScriptLaw mode opening.shape opening.begin_row (drop opening.begin_row all)
+  script_law : (opening : Opening) → ScriptLaw (events_in mode opening.shape) opening.begin_row (drop opening.begin_row all)
   script_law opening = script-law mode opening.shape opening.begin_row (drop opening.begin_row all)
 
   -- what is read, and what it says then: an opening and a script, a bad row, or a block

@@ -17,7 +17,7 @@ use Rattle.packet_reader.specs.declared.event.Event.{Event}
 use Rattle.packet_reader.specs.declared.mode.Mode.{Mode}
 use Rattle.packet_reader.specs.FirstBad.{IsScript}
 use Rattle.packet_reader.specs.Form.{IsScriptOf}
-use Rattle.packet_reader.specs.Script.{script_row}
+use Rattle.packet_reader.specs.Events.{events_in, script_row}
 use Rattle.packet_reader.proofs.Forms.{scripts_are_formed}
 use Rattle.run_model.specs.Laws.{CanBeOpened}
 use Rattle.cluster_open.specs.FirstBad.{AreReadable}
@@ -85,7 +85,7 @@ can_be_run mode octets = record { opens = can-open (rows octets); formed = forme
 
 -- there is a row for each event, one for the end of the script, and those up to `begin`
 pub rows_counted : (mode : Mode) (all left : List Row) (opening : Opening) (script : List Event) → IsOpening all opening → left ≡ drop opening.begin_row all
-    → IsScript mode opening.shape left script → length all ≡ opening.begin_row + length script + 1
+    → IsScript (events_in mode opening.shape) left script → length all ≡ opening.begin_row + length script + 1
 rows_counted mode all left opening script opens left_is goes_on =
     let up_to : length all ≡ length opens.sound + (1 + length opens.after) = ap length opens.split ∙ length-append opens.sound (opens.begin ∷ opens.after) ∙ omega arith in
     let left_of : length left ≡ length all - opening.begin_row = ap length left_is ∙ length-drop opening.begin_row all in

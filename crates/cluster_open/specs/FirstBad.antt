@@ -8,6 +8,7 @@ use Rattle.group_search.specs.Build.{PastLimit, past_limit}
 use Rattle.group_search.specs.Build.PastLimit.{TooManyFlows, TooManyRows}
 use Rattle.packet_reader.specs.declared.event.Event.{Event}
 use Rattle.packet_reader.specs.declared.mode.Mode.{Mode}
+use Rattle.packet_reader.specs.Events.{events_in}
 use Rattle.packet_reader.specs.FirstBad.{IsFirstBadAfter, IsScript}
 use Rattle.cluster_open.specs.declared.fault.InputFault.TheVariants.{Bad, BlockFull, RowsFull}
 use Rattle.cluster_open.specs.Input.{Input, input_in}
@@ -16,12 +17,12 @@ use Rattle.cluster_open.specs.Input.{Input, input_in}
 abbrev pub IsFirstBadRow : Mode → List Row → BadRow → Type 0
 IsFirstBadRow mode all bad =
     IsFirstBad all bad
-    ⊎ ((opening : Opening) × IsOpening all opening × IsFirstBadAfter mode opening.shape opening.begin_row (drop opening.begin_row all) bad)
+    ⊎ ((opening : Opening) × IsOpening all opening × IsFirstBadAfter (events_in mode opening.shape) opening.begin_row (drop opening.begin_row all) bad)
 
 -- no row is bad, and the rows say this opening and this script
 pub record AreReadable (mode : Mode) (all : List Row) (opening : Opening) (script : List Event) : Type 0 where
   pub opens : IsOpening all opening
-  pub goes_on : IsScript mode opening.shape (drop opening.begin_row all) script
+  pub goes_on : IsScript (events_in mode opening.shape) (drop opening.begin_row all) script
 
 -- so it is, and no block is past a limit
 pub record CanRun (mode : Mode) (all : List Row) (input : Input) : Type 0 where

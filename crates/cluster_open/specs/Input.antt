@@ -8,6 +8,7 @@ use Rattle.flow_reader.specs.declared.opening.Opening.{Opening}
 use Rattle.group_search.specs.Build.{PastLimit, past_limit}
 use Rattle.packet_reader.specs.declared.event.Event.{Event}
 use Rattle.packet_reader.specs.declared.mode.Mode.{Mode}
+use Rattle.packet_reader.specs.Events.{events_in}
 use Rattle.packet_reader.specs.Script.{script_of}
 use Rattle.run_model.specs.State.{ClusterOpening}
 use Rattle.cluster_open.specs.declared.fault.InputFault.{InputFault}
@@ -35,7 +36,7 @@ input_of_script opening (Err bad) = Err (Bad bad)
 
 -- rows: first their opening, then the script of the rows after it, then the table of the flows
 abbrev pub input_of_rows : Mode → List Row → Result Opening BadRow → Result Input InputFault
-input_of_rows mode all (Ok opening) = input_of_script opening (script_of mode opening.shape opening.begin_row (drop opening.begin_row all))
+input_of_rows mode all (Ok opening) = input_of_script opening (script_of (events_in mode opening.shape) opening.begin_row (drop opening.begin_row all))
 input_of_rows mode all (Err bad) = Err (Bad bad)
 
 -- what an input says in this mode: its opening and its script, or its first bad row, or else the first block that is past a limit

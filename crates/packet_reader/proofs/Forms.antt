@@ -18,12 +18,12 @@ use Rattle.packet_reader.specs.declared.event.Part.{Part}
 use Rattle.packet_reader.specs.declared.kind.Kind.{Kind}
 use Rattle.packet_reader.specs.declared.kind.Kind.TheVariants as kind
 use Rattle.packet_reader.specs.declared.mode.Mode.{Mode}
+use Rattle.packet_reader.specs.Events.{events_in, kind_says, script_row}
 use Rattle.packet_reader.specs.FirstBad.{IsScript}
 use Rattle.packet_reader.specs.Fields.{fields_say, one_turn, part_field, some_event, turn_field}
 use Rattle.packet_reader.specs.Form.{HasRecordValue, HasKeyValue, IsCarried, IsInRange, IsRowOf, IsScriptOf}
 use Rattle.packet_reader.specs.Kind.{kind_of, kind_of_event, width}
 use Rattle.packet_reader.specs.Mode.{may_stand}
-use Rattle.packet_reader.specs.Script.{kind_says, script_row}
 
 -- a row of this kind says the event, whose nodes, turn, key and record are in range
 record IsSaid (shape : Size) (kind : Kind) (event : Event) : Type 0 where
@@ -139,7 +139,7 @@ rows-formed mode shape (row ∷ rows) (event ∷ events) says =
     All-cons (IsSaidIn mode shape) event events (row-formed shape row mode event first) (rows-formed mode shape rows events others)
 
 -- so they make a script of the mode
-pub scripts_are_formed : (mode : Mode) (shape : Size) (rest : List Row) (events : List Event) → IsScript mode shape rest events → IsScriptOf mode shape events
+pub scripts_are_formed : (mode : Mode) (shape : Size) (rest : List Row) (events : List Event) → IsScript (events_in mode shape) rest events → IsScriptOf mode shape events
 scripts_are_formed mode shape rest events script =
     let said = rows-formed mode shape script.before events script.say_events.each_says in
     record {

@@ -8,9 +8,10 @@ use Rattle.packet_reader.specs.declared.event.Event.{Event}
 use Rattle.packet_reader.specs.declared.event.Event.TheVariants.{Set, Del, Packet, Carry, Sync}
 use Rattle.packet_reader.specs.declared.kind.Kind.{Kind}
 use Rattle.packet_reader.specs.declared.mode.Mode.{Mode}
-use Rattle.packet_reader.specs.declared.mode.Mode.TheVariants.{Replay, Storm}
+use Rattle.packet_reader.specs.Events.{events_in}
 use Rattle.packet_reader.specs.Kind.{kind_of_event}
-use Rattle.packet_reader.specs.Mode.{may_stand, syncs_of}
+use Rattle.packet_reader.specs.Meaning.{HasFewPhases}
+use Rattle.packet_reader.specs.Mode.{may_stand}
 
 -- one of an owner's turns is told to a node: both are nodes of the cluster, and turns are numbered from 1 to 65,535
 pub record IsCarried (nodes node owner turn : ℕ) : Type 0 where
@@ -36,11 +37,6 @@ pub record IsOfKind (shape : Size) (kind : Kind) (event : Event) : Type 0 where
 pub record IsFormed (mode : Mode) (shape : Size) (event : Event) : Type 0 where
   pub allowed : IsTrue (may_stand mode (kind_of_event event))
   pub in_range : IsInRange shape event
-
--- the events' `sync`s part them into no more phases than this mode may have: a storm has at most 256
-abbrev pub HasFewPhases : Mode → List Event → Type 0
-HasFewPhases Replay events = Unit {0}
-HasFewPhases Storm events = syncs_of events < 256
 
 -- ---- numbers
 
@@ -68,4 +64,4 @@ pub record IsRowOf (mode : Mode) (shape : Size) (event : Event) : Type 0 where
 pub record IsScriptOf (mode : Mode) (shape : Size) (script : List Event) : Type 0 where
   pub rows : All (IsRowOf mode shape) script
   pub records : All HasRecordValue script
-  pub few_phases : HasFewPhases mode script
+  pub few_phases : HasFewPhases (events_in mode shape) script

@@ -1,5 +1,6 @@
 ghost use Rattle.std.specs.Prelude.{◌≡◌, IfOk, IfSome, OnOk};
 ghost use Rattle.csv_rows.specs.Rows.{fields_of};
+ghost use Rattle.packet_reader.specs.Events.{events_in};
 ghost use Rattle.packet_reader.specs.Form.{IsFormed};
 ghost use Rattle.packet_reader.specs.Script.{row_after, start, with_row};
 
@@ -25,15 +26,16 @@ pub(crate) struct Progress {
 }
 
 impl Model for Progress {
-    ghost use Rattle.std.specs.Prelude.{◌≡◌};
-    ghost use Rattle.packet_reader.specs.Mode.{syncs_of};
+    ghost use Rattle.std.specs.Prelude.{◌≡◌, count_by};
+    ghost use Rattle.packet_reader.specs.declared.event.Event.{Event};
+    ghost use Rattle.packet_reader.specs.Mode.{is_sync};
     ghost use Rattle.packet_reader.specs.Script as script;
 
-    ghost Value = { script.Progress };
+    ghost Value = { script.Progress Event };
 
     ghost view = { λ p. record { events = p.events.items; ended = p.ended } };
 
-    ghost invariant = { λ p. p.syncs ≡ syncs_of p.events.items };
+    ghost invariant = { λ p. p.syncs ≡ count_by is_sync p.events.items };
 }
 
 impl Progress {
@@ -61,7 +63,7 @@ impl Progress {
         shape: Shape,
         mode: Mode,
     ) -> Result<Option<Event>, Why>
-        ensures says { result ≡ row_after mode shape self.now (fields_of row.now) }
+        ensures says { result ≡ row_after (events_in mode shape) self.now (fields_of row.now) }
         ensures formed { IfOk result (λ said. IfSome said (IsFormed mode shape)) }
     {
         if self.ended {

@@ -1,9 +1,9 @@
 ghost use Rattle.std.specs.Prelude.{◌≡◌, ◌≤◌, IfOk, IfSome};
 ghost use Rattle.flow_types.specs.Limits.{most_turns};
 ghost use Rattle.csv_rows.specs.Rows.{fields_of};
+ghost use Rattle.packet_reader.specs.Events.{script_row};
 ghost use Rattle.packet_reader.specs.Fields.{carry_fields, del_fields, fields_say, packet_fields, part_field, set_fields, turn_field};
 ghost use Rattle.packet_reader.specs.Form.{IsFormed, IsOfKind};
-ghost use Rattle.packet_reader.specs.Script.{script_row};
 
 use crate::event::{Event, Part};
 use crate::kind::Kind;
@@ -13,7 +13,7 @@ use flow_types::{MOST_TURNS, Shape, Why};
 use row_fields::{flow_of, key_at, node_field, number_field};
 
 /// What a row says by itself: an event, or by `None` that the script ends.
-#[tactic(auto, using(crate::proofs::Scripts::formed_of), unfolding(crate::specs::Script::script_row))]
+#[tactic(auto, using(crate::proofs::Scripts::formed_of), unfolding(crate::specs::Events::script_row))]
 pub(crate) fn script_row(row: &ByteRecord, shape: Shape, mode: Mode) -> Result<Option<Event>, Why>
     ensures says { result ≡ script_row mode shape (fields_of row.now) }
     ensures formed { IfOk result (λ said. IfSome said (IsFormed mode shape)) }

@@ -4,8 +4,10 @@ ghost use Rattle.flow_types.specs.Input.{most_octets};
 ghost use Rattle.csv_rows.specs.Reading.{IsReading, rows_left};
 ghost use Rattle.csv_rows.specs.Rows.{rows};
 ghost use Rattle.row_fields.specs.Refused.{named_row};
+ghost use Rattle.packet_reader.specs.Events.{events_in};
 ghost use Rattle.packet_reader.specs.FirstBad.{IsScript};
-ghost use Rattle.packet_reader.specs.Form.{HasFewPhases, IsFormed};
+ghost use Rattle.packet_reader.specs.Form.{IsFormed};
+ghost use Rattle.packet_reader.specs.Meaning.{HasFewPhases};
 ghost use Rattle.packet_reader.specs.Script.{events_of, script_of};
 
 use crate::event::Event;
@@ -32,12 +34,12 @@ pub fn read_script(
 ) -> Result<Vec<Event>, RowRefused>
     requires limit { length bytes.now ≤ most_octets }
     requires begun { begin_row ≤ length (rows bytes.now) }
-    ensures answers { Answers events_of named_row (script_of mode shape begin_row (drop begin_row (rows bytes.now))) result }
+    ensures answers { Answers events_of named_row (script_of (events_in mode shape) begin_row (drop begin_row (rows bytes.now))) result }
 
     // What that makes of the events and of their rows.
-    ensures script { IfOk result (λ events. IsScript mode shape (drop begin_row (rows bytes.now)) events.items) }
+    ensures script { IfOk result (λ events. IsScript (events_in mode shape) (drop begin_row (rows bytes.now)) events.items) }
     ensures formed { IfOk result (λ events. All (IsFormed mode shape) events.items) }
-    ensures phases { IfOk result (λ events. HasFewPhases mode events.items) }
+    ensures phases { IfOk result (λ events. HasFewPhases (events_in mode shape) events.items) }
 {
     let mut reader = RowReader::new(alloc, bytes);
     skip_rows(alloc, &mut reader, begin_row)?;
@@ -56,12 +58,12 @@ pub fn read_script_from(
 ) -> Result<Vec<Event>, RowRefused>
     requires reading { IsReading reader.old }
     requires few { begin_row + length (rows_left reader.old) + 1 < 2 ^ 32 }
-    ensures answers { Answers events_of named_row (script_of mode shape begin_row (rows_left reader.old)) result }
+    ensures answers { Answers events_of named_row (script_of (events_in mode shape) begin_row (rows_left reader.old)) result }
 
     // What that makes of the events and of their rows.
-    ensures script { IfOk result (λ events. IsScript mode shape (rows_left reader.old) events.items) }
+    ensures script { IfOk result (λ events. IsScript (events_in mode shape) (rows_left reader.old) events.items) }
     ensures formed { IfOk result (λ events. All (IsFormed mode shape) events.items) }
-    ensures phases { IfOk result (λ events. HasFewPhases mode events.items) }
+    ensures phases { IfOk result (λ events. HasFewPhases (events_in mode shape) events.items) }
 {
     let mut progress = Progress::new(alloc);
     let mut row = ByteRecord::new(alloc);
