@@ -1,6 +1,7 @@
 -- The events that rows say have the form of rows of their mode, and their keys are in range.
 use Rattle.std.proofs.Common.{◌≡◌, ◌≤◌, ℕ, Bool, true, false, List, [], ◌∷◌, length, map, Option, Some, Result, Ok, Err, refl, subst, arith}
-use Rattle.std.specs.Prelude.{◌==◌, All, if◌then◌else◌, nat_lt}
+use Rattle.std.specs.Prelude.{◌==◌, All, IfOk, Vec, if◌then◌else◌, nat_lt}
+use Rattle.std.specs.Global.{Global}
 use Rattle.std.proofs.lemmas.Bool.{ltb-true}
 use Rattle.std.proofs.lemmas.List.Elements.{All-cons, All-nil, All-weaker}
 use Rattle.csv_rows.specs.Rows.{Field, Row, field_at}
@@ -11,6 +12,7 @@ use Rattle.flow_types.specs.declared.record.Flow.{Flow}
 use Rattle.flow_types.specs.declared.why.Why.{Why}
 use Rattle.flow_types.specs.declared.why.Why.TheVariants as why
 use Rattle.row_fields.specs.Fields.{and_then, flow_of, key_at, node_field, number_field}
+use Rattle.row_fields.specs.declared.refused.RowRefused.{RowRefused}
 use Rattle.row_fields.proofs.Ranges.{below_nodes, flow_value, key_value, number_most}
 use Rattle.packet_reader.specs.declared.event.Event.{Event}
 use Rattle.packet_reader.specs.declared.event.Event.TheVariants.{Set, Del, Packet, Carry, Sync}
@@ -21,7 +23,7 @@ use Rattle.packet_reader.specs.declared.mode.Mode.{Mode}
 use Rattle.packet_reader.specs.Events.{events_in, kind_says, script_row}
 use Rattle.packet_reader.specs.FirstBad.{IsScript}
 use Rattle.packet_reader.specs.Fields.{fields_say, one_turn, part_field, some_event, turn_field}
-use Rattle.packet_reader.specs.Form.{HasRecordValue, HasKeyValue, IsCarried, IsInRange, IsRowOf, IsScriptOf}
+use Rattle.packet_reader.specs.Form.{HasRecordValue, HasKeyValue, IsCarried, IsFormed, IsInRange, IsRowOf, IsScriptOf}
 use Rattle.packet_reader.specs.Kind.{kind_of, kind_of_event, width}
 use Rattle.packet_reader.specs.Mode.{may_stand}
 
@@ -147,3 +149,10 @@ scripts_are_formed mode shape rest events script =
       records = All-weaker (IsSaidIn mode shape) HasRecordValue (λ event is. is.record_value) events said;
       few_phases = script.say_events.few_phases;
     }
+
+-- so each event of a script that was read has the form of a row of the mode
+pub read_are_formed : (mode : Mode) (shape : Size) (rest : List Row) (read : Result (Vec Event Global) RowRefused) → IfOk read (λ events. IsScript (events_in mode shape) rest events.items)
+    → IfOk read (λ events. All (IsFormed mode shape) events.items)
+read_are_formed mode shape rest (Err refused) script = tt
+read_are_formed mode shape rest (Ok events) script =
+    All-weaker (IsRowOf mode shape) (IsFormed mode shape) (λ event is. is.formed) events.items (scripts_are_formed mode shape rest events.items script).rows

@@ -1,19 +1,12 @@
 -- A script with one more row.
-use Rattle.std.proofs.Common.{ℕ, ◌≡◌, ◌∙◌, ◌+◌, ◌<◌, Bool, true, false, cond, List, ◌++◌, length, drop, drop-cons, add-one, append-nil, Option, Some, None, option_to_list, Result, Ok, Err, ap, sym, subst, refl}
-use Rattle.std.specs.Prelude.{All, IfOk, IfSome}
-use Rattle.std.proofs.lemmas.List.Elements.{All-push}
+use Rattle.std.proofs.Common.{ℕ, ◌≡◌, ◌∙◌, ◌+◌, ◌<◌, Bool, true, false, cond, List, ◌++◌, length, drop, drop-cons, add-one, Option, Some, None, option_to_list, Result, Ok, Err, ap, sym, subst, refl}
+use Rattle.std.specs.Prelude.{is_none}
 use Rattle.csv_rows.specs.Rows.{Row, TakesRow}
-use Rattle.flow_types.specs.Size.{Size}
 use Rattle.flow_types.specs.declared.why.BadRow.{BadRow}
 use Rattle.flow_types.specs.declared.why.Why.{Why}
 use Rattle.flow_types.specs.declared.why.Why.TheVariants as why
 use Rattle.row_fields.specs.Refused.{bad_row}
-use Rattle.packet_reader.specs.declared.event.Event.{Event}
-use Rattle.packet_reader.specs.declared.kind.Kind.{Kind}
-use Rattle.packet_reader.specs.declared.mode.Mode.{Mode}
-use Rattle.packet_reader.specs.Form.{IsFormed, IsOfKind}
 use Rattle.packet_reader.specs.Meaning.{Meaning}
-use Rattle.packet_reader.specs.Mode.{may_stand}
 use Rattle.packet_reader.specs.Script.{Progress, row_after, script_ends, refused_or, script_from, script_of, start, with_row, with_row_said}
 
 -- what the rows say, where the first of them says this
@@ -24,6 +17,12 @@ goes_on meaning rest so_far number said = refused_or number said (script_from me
 pub row_skipped : (found : Bool) (all before after : List Row) (row : Row) (i : ℕ) → i < length all → before ≡ drop i all → TakesRow found before row after → after ≡ drop (i + 1) all
 row_skipped true all before after row i inside left takes = let more = drop-cons all i row inside in rw add-one cc
 row_skipped false all before after row i inside left takes = let more = drop-cons all i row inside in cc
+
+-- one more row was read, piece by piece
+pub with_row_is : {E : Type 0} (so_far : Progress E) (said : Option E) (events : List E) (ended : Bool) → events ≡ so_far.events ++ option_to_list said → ended ≡ is_none said
+    → ◌≡◌ {A = Progress E} (record { events = events; ended = ended }) (with_row so_far said)
+with_row_is {E = E} so_far said events ended added is =
+    ap (λ (es : List E). record { events = es; ended = ended }) added ∙ ap (λ (e : Bool). record { events = so_far.events ++ option_to_list said; ended = e }) is
 
 -- no row was read yet
 pub script_begins : {E : Type 0} (meaning : Meaning E) (begin_row : ℕ) (rest : List Row) → script_from meaning rest start (begin_row + 1) ≡ script_of meaning begin_row rest
@@ -68,19 +67,3 @@ module _ {E : Type 0} (meaning : Meaning E) (so_far : Progress E) (number : ℕ)
     -- no row is left, and there was no `end`
     pub lacks_end : so_far.ended ≡ false → whole ≡ Err (bad_row number why.NoEnd)
     lacks_end is = at_end ∙ ap (λ e. cond e (Ok so_far.events) (Err (bad_row number why.NoEnd))) is
-
--- what a row says, whose kind the mode allows, has the form of a row of the mode
-pub formed_of : (mode : Mode) (shape : Size) (kind : Kind) (said : Result (Option Event) Why) → may_stand mode kind ≡ true → IfOk said (λ o. IfSome o (IsOfKind shape kind))
-    → IfOk said (λ o. IfSome o (IsFormed mode shape))
-formed_of mode shape kind (Err reason) allowed of_kind = tt
-formed_of mode shape kind (Ok None) allowed of_kind = tt
-formed_of mode shape kind (Ok (Some event)) allowed of_kind = record {
-  allowed = rw of_kind.kind_is allowed;
-  in_range = of_kind.in_range;
-}
-
--- and so have all events with it
-pub formed_more : (mode : Mode) (shape : Size) (events : List Event) (said : Option Event) (then : List Event) → All (IsFormed mode shape) events → IfSome said (IsFormed mode shape)
-    → then ≡ events ++ option_to_list said → All (IsFormed mode shape) then
-formed_more mode shape events None then formed one is = rw (is, append-nil events) formed
-formed_more mode shape events (Some event) then formed one is = rw is (All-push (IsFormed mode shape) events event formed one)

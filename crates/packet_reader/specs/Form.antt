@@ -6,7 +6,6 @@ use Rattle.flow_types.specs.Size.{Size}
 use Rattle.flow_types.specs.Limits.{most_turns}
 use Rattle.packet_reader.specs.declared.event.Event.{Event}
 use Rattle.packet_reader.specs.declared.event.Event.TheVariants.{Set, Del, Packet, Carry, Sync}
-use Rattle.packet_reader.specs.declared.kind.Kind.{Kind}
 use Rattle.packet_reader.specs.declared.mode.Mode.{Mode}
 use Rattle.packet_reader.specs.Events.{events_in}
 use Rattle.packet_reader.specs.Kind.{kind_of_event}
@@ -27,11 +26,6 @@ IsInRange shape (Del key) = Unit {0}
 IsInRange shape (Packet ingress key) = ingress < shape.nodes
 IsInRange shape (Carry node owner turn part) = IsCarried shape.nodes node owner turn
 IsInRange shape Sync = Unit {0}
-
--- a row of this kind may say the event, in a cluster of this shape
-pub record IsOfKind (shape : Size) (kind : Kind) (event : Event) : Type 0 where
-  pub kind_is : kind_of_event event ≡ kind
-  pub in_range : IsInRange shape event
 
 -- the event has the form of a row of this mode, in a cluster of this shape
 pub record IsFormed (mode : Mode) (shape : Size) (event : Event) : Type 0 where

@@ -10,8 +10,9 @@
 mod event;
 mod kind;
 mod law;
+mod meaning;
 mod mode;
-mod progress;
+mod reading;
 mod row;
 mod rows;
 

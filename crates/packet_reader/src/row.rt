@@ -1,9 +1,7 @@
-ghost use Rattle.std.specs.Prelude.{◌≡◌, ◌≤◌, IfOk, IfSome};
-ghost use Rattle.flow_types.specs.Limits.{most_turns};
+ghost use Rattle.std.specs.Prelude.{◌≡◌};
 ghost use Rattle.csv_rows.specs.Rows.{fields_of};
 ghost use Rattle.packet_reader.specs.Events.{script_row};
 ghost use Rattle.packet_reader.specs.Fields.{carry_fields, del_fields, fields_say, packet_fields, part_field, set_fields, turn_field};
-ghost use Rattle.packet_reader.specs.Form.{IsFormed, IsOfKind};
 
 use crate::event::{Event, Part};
 use crate::kind::Kind;
@@ -13,10 +11,9 @@ use flow_types::{MOST_TURNS, Shape, Why};
 use row_fields::{flow_of, key_at, node_field, number_field};
 
 /// What a row says by itself: an event, or by `None` that the script ends.
-#[tactic(auto, using(crate::proofs::Scripts::formed_of), unfolding(crate::specs::Events::script_row))]
+#[tactic(auto, unfolding(crate::specs::Events::script_row))]
 pub(crate) fn script_row(row: &ByteRecord, shape: Shape, mode: Mode) -> Result<Option<Event>, Why>
-    ensures says { result ≡ script_row mode shape (fields_of row.now) }
-    ensures formed { IfOk result (λ said. IfSome said (IsFormed mode shape)) }
+    ensures { result ≡ script_row mode shape (fields_of row.now) }
 {
     let kind = Kind::of(row)?;
     if !mode.allows(kind) {
@@ -30,8 +27,7 @@ pub(crate) fn script_row(row: &ByteRecord, shape: Shape, mode: Mode) -> Result<O
 
 /// What the fields of a row of this kind say.
 fn fields_say(row: &ByteRecord, kind: Kind, shape: Shape) -> Result<Option<Event>, Why>
-    ensures says { result ≡ fields_say kind shape.nodes (fields_of row.now) }
-    ensures of_kind { IfOk result (λ said. IfSome said (IsOfKind shape kind)) }
+    ensures { result ≡ fields_say kind shape.nodes (fields_of row.now) }
 {
     let event = match kind {
         Kind::Set => set_fields(row, shape)?,
@@ -45,8 +41,7 @@ fn fields_say(row: &ByteRecord, kind: Kind, shape: Shape) -> Result<Option<Event
 }
 
 fn set_fields(row: &ByteRecord, shape: Shape) -> Result<Event, Why>
-    ensures says { result ≡ set_fields shape.nodes (fields_of row.now) }
-    ensures of_kind { IfOk result (IsOfKind shape Kind.Set) }
+    ensures { result ≡ set_fields shape.nodes (fields_of row.now) }
 {
     let flow = flow_of(row, shape.nodes())?;
     Ok(Event::Set(flow))
@@ -60,8 +55,7 @@ fn del_fields(row: &ByteRecord) -> Result<Event, Why>
 }
 
 fn packet_fields(row: &ByteRecord, shape: Shape) -> Result<Event, Why>
-    ensures says { result ≡ packet_fields shape.nodes (fields_of row.now) }
-    ensures of_kind { IfOk result (IsOfKind shape Kind.Packet) }
+    ensures { result ≡ packet_fields shape.nodes (fields_of row.now) }
 {
     let ingress = node_field(field(row, 1), shape.nodes())?;
     let key = key_at(row, 2)?;
@@ -69,8 +63,7 @@ fn packet_fields(row: &ByteRecord, shape: Shape) -> Result<Event, Why>
 }
 
 fn carry_fields(row: &ByteRecord, shape: Shape) -> Result<Event, Why>
-    ensures says { result ≡ carry_fields shape.nodes (fields_of row.now) }
-    ensures of_kind { IfOk result (IsOfKind shape Kind.Carry) }
+    ensures { result ≡ carry_fields shape.nodes (fields_of row.now) }
 {
     let node = node_field(field(row, 1), shape.nodes())?;
     let owner = node_field(field(row, 2), shape.nodes())?;
@@ -85,9 +78,7 @@ fn carry_fields(row: &ByteRecord, shape: Shape) -> Result<Event, Why>
 }
 
 fn turn_field(text: &[u8]) -> Result<u32, Why>
-    ensures value { result ≡ turn_field text.now }
-    ensures least { IfOk result (λ turn. 1 ≤ turn) }
-    ensures most { IfOk result (λ turn. turn ≤ most_turns) }
+    ensures { result ≡ turn_field text.now }
 {
     let turn = number_field(text, u64::from(MOST_TURNS))?;
     if turn == 0 {

@@ -1,4 +1,4 @@
-ghost use Rattle.std.specs.Prelude.{◌≡◌, ◌+◌, ◌<◌, ◌≤◌, ◌^◌, All, length, drop, IfOk, OnOk};
+ghost use Rattle.std.specs.Prelude.{◌≡◌, ◌+◌, ◌<◌, ◌≤◌, ◌^◌, All, length, drop, IfOk};
 ghost use Rattle.out_of_memory.specs.Answer.{Answers};
 ghost use Rattle.flow_types.specs.Input.{most_octets};
 ghost use Rattle.csv_rows.specs.Reading.{IsReading, rows_left};
@@ -11,12 +11,12 @@ ghost use Rattle.packet_reader.specs.Meaning.{HasFewPhases};
 ghost use Rattle.packet_reader.specs.Script.{events_of, script_of};
 
 use crate::event::Event;
+use crate::meaning::EventRows;
 use crate::mode::Mode;
-use crate::progress::Progress;
-use csv_rows::{ByteRecord, RowReader};
-use flow_types::{Shape, Why};
-use out_of_memory::OutOfMemory;
-use row_fields::{RowRefused, refusal};
+use crate::reading::{read_rows, skip_rows};
+use csv_rows::RowReader;
+use flow_types::Shape;
+use row_fields::RowRefused;
 use std::alloc::Global;
 
 /// Reads the rows of the bytes after `begin`, which stands in the row of this number, to the end of the input: rows of
@@ -48,7 +48,6 @@ pub fn read_script(
 
 /// Reads the rows that a reader has left as `read_script` reads those after `begin`, which stands in the row of this
 /// number and is the last that was taken from the reader. A reader with which it answered an error isn't asked again.
-#[tactic(auto, using(crate::proofs::Scripts::script_begins))]
 pub fn read_script_from(
     alloc: Global,
     reader: &mut RowReader<'_>,
@@ -65,34 +64,5 @@ pub fn read_script_from(
     ensures formed { IfOk result (λ events. All (IsFormed mode shape) events.items) }
     ensures phases { IfOk result (λ events. HasFewPhases (events_in mode shape) events.items) }
 {
-    let mut progress = Progress::new(alloc);
-    let mut row = ByteRecord::new(alloc);
-    let mut number = begin_row + 1;
-    'rows: while reader.next_row(&mut row)? {
-        match progress.row_after(&row, shape, mode) {
-            Ok(said) => progress.add(said)?,
-            Err(why) => return Err(refusal(number, why)),
-        }
-        number += 1;
-    }
-    if progress.has_ended() {
-        Ok(progress.into_events())
-    } else {
-        Err(refusal(number, Why::NoEnd))
-    }
-}
-
-/// Takes the next `count` rows from the reader.
-#[tactic(auto, using(crate::proofs::Scripts::row_skipped))]
-fn skip_rows(alloc: Global, reader: &mut RowReader<'_>, count: u32) -> Result<(), OutOfMemory>
-    requires reading { IsReading reader.old }
-    requires enough { count ≤ length (rows_left reader.old) }
-    ensures reading { OnOk result (IsReading reader.new) }
-    ensures skipped { OnOk result (rows_left reader.new ≡ drop count (rows_left reader.old)) }
-{
-    let mut row = ByteRecord::new(alloc);
-    'skipped: for _taken in 0..count {
-        reader.next_row(&mut row)?;
-    }
-    Ok(())
+    read_rows(alloc, reader, begin_row, &EventRows { shape, mode })
 }
