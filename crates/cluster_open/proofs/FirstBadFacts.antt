@@ -32,7 +32,7 @@ module _ (mode : Mode) (all : List Row) where
   script_in opening = script_of (events_in mode opening.shape) opening.begin_row (drop opening.begin_row all)
 
   script_law : (opening : Opening) → ScriptLaw (events_in mode opening.shape) opening.begin_row (drop opening.begin_row all)
-  script_law opening = script-law mode opening.shape opening.begin_row (drop opening.begin_row all)
+  script_law opening = script-law (events_in mode opening.shape) opening.begin_row (drop opening.begin_row all)
 
   -- what is read, and what it says then: an opening and a script, a bad row, or a block
   data Read : Type 0 where

@@ -13,6 +13,7 @@ use Rattle.packet_reader.specs.declared.event.Event.{Event}
 use Rattle.packet_reader.specs.declared.mode.Mode.{Mode}
 use Rattle.packet_reader.specs.Form.{IsFormed, IsRowOf, IsScriptOf}
 use Rattle.packet_reader.proofs.FirstBadFacts.{script-law}
+use Rattle.packet_reader.specs.Events.{events_in}
 use Rattle.packet_reader.proofs.Forms.{scripts_are_formed}
 use Rattle.run_model.specs.Laws.{CanBeOpened}
 use Rattle.cluster_open.specs.declared.fault.InputFault.{InputFault}
@@ -47,7 +48,7 @@ module _ (mode : Mode) (octets : List ℕ) (opening : Opening) (script : List Ev
   unfolding input_in
   says_build =
       let opens_so = ((opening-law (rows octets)).made opening).1 read.readable.opens in
-      let goes_on = ((script-law mode opening.shape opening.begin_row (drop opening.begin_row (rows octets))).made script).1 read.readable.goes_on in
+      let goes_on = ((script-law (events_in mode opening.shape) opening.begin_row (drop opening.begin_row (rows octets))).made script).1 read.readable.goes_on in
       rw (opens_so, goes_on) refl
 
   pub input_of_read : past_limit opening.shape opening.flows ≡ None → input_in mode octets ≡ Ok (record { opening = opening; script = script })
