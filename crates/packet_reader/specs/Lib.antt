@@ -3,6 +3,7 @@ pub mod Kind
 pub mod Fields
 pub mod Meaning
 pub mod Events
+pub mod Wire
 pub mod Script
 pub mod FirstBad
 pub mod Form

@@ -9,11 +9,14 @@ ghost use Rattle.packet_reader.specs.FirstBad.{IsScript};
 ghost use Rattle.packet_reader.specs.Form.{IsFormed};
 ghost use Rattle.packet_reader.specs.Meaning.{HasFewPhases};
 ghost use Rattle.packet_reader.specs.Script.{events_of, script_of};
+ghost use Rattle.packet_reader.specs.Wire.{wire_events_in};
 
 use crate::event::Event;
 use crate::meaning::EventRows;
 use crate::mode::Mode;
 use crate::reading::{read_rows, skip_rows};
+use crate::wire::WireRows;
+use crate::wire_event::WireEvent;
 use csv_rows::RowReader;
 use flow_types::Shape;
 use row_fields::RowRefused;
@@ -65,4 +68,23 @@ pub fn read_script_from(
     ensures phases { IfOk result (λ events. HasFewPhases (events_in mode shape) events.items) }
 {
     read_rows(alloc, reader, begin_row, &EventRows { shape, mode })
+}
+
+/// Reads the rows of the bytes after `begin` as `read_script` reads those of a replay, and rows of the kinds `wire`, with an
+/// ingress and a packet, and `tunnel`, with a G-PDU. Octets are written in hexadecimal; a text that writes none is refused as
+/// `Number`.
+pub fn read_wire(
+    alloc: Global,
+    bytes: &[u8],
+    begin_row: u32,
+    shape: Shape,
+) -> Result<Vec<WireEvent>, RowRefused>
+    requires limit { length bytes.now ≤ most_octets }
+    requires begun { begin_row ≤ length (rows bytes.now) }
+    ensures answers { Answers events_of named_row (script_of (wire_events_in shape) begin_row (drop begin_row (rows bytes.now))) result }
+    ensures script { IfOk result (λ events. IsScript (wire_events_in shape) (drop begin_row (rows bytes.now)) events.items) }
+{
+    let mut reader = RowReader::new(alloc, bytes);
+    skip_rows(alloc, &mut reader, begin_row)?;
+    read_rows(alloc, &mut reader, begin_row, &WireRows { shape })
 }

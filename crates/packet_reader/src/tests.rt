@@ -1,5 +1,6 @@
 use crate::{
-    Event, Mode, Part, first_bad_row_law, read_script, read_script_from, scripts_are_formed,
+    Event, Mode, Part, first_bad_row_law, first_bad_wire_row_law, read_script, read_script_from,
+    read_wire, scripts_are_formed,
 };
 use csv_rows::RowReader;
 use flow_reader::{MOST_OCTETS, RowRefused, read_opening, read_opening_from};
@@ -411,6 +412,50 @@ fn reads_in_one_pass(rt: HostRuntime) -> Result<(), Fail> {
             assert!(rt; events.as_slice() == wanted.as_slice(), "{events:?}");
         }
         Err(refused) => assert!(rt; false, "refused: {refused:?}"),
+    }
+    Ok(())
+}
+
+// What these rows after a `cluster` row of four nodes and `begin` read as, with raw packets among them.
+fn read_raw(alloc: Global, rows: &str) -> Result<String, Fail> {
+    let text = format!(in alloc; "cluster,4,1\nbegin\n{rows}")?;
+    if text.len() > MOST_OCTETS {
+        return Err(Fail::from("too long"));
+    }
+    let Ok(opening) = read_opening(alloc, text.as_bytes()) else {
+        return Err(Fail::from("no opening"));
+    };
+    match read_wire(alloc, text.as_bytes(), opening.begin_row, opening.shape) {
+        Ok(events) => Ok(format!(in alloc; "{events:?}")?),
+        Err(RowRefused::Bad(BadRow { row, why })) => Ok(format!(in alloc; "{row} {why:?}")?),
+        Err(RowRefused::OutOfMemory) => Err(Fail::from("out of memory")),
+    }
+}
+
+#[test]
+fn reads_raw_packets(rt: HostRuntime) -> Result<(), Fail> {
+    first_bad_wire_row_law();
+    let cases = [
+        (
+            "wire,3,45fF\ntunnel,30\nsync\nend\n",
+            "[Wire { ingress: 3, octets: Octets { octets: [69, 255] } }, \
+             Tunnel { octets: Octets { octets: [48] } }, Plain(Sync)]",
+        ),
+        (
+            "wire,0,\nend\n",
+            "[Wire { ingress: 0, octets: Octets { octets: [] } }]",
+        ),
+        ("wire,0,4\nend\n", "3 Number"),
+        ("tunnel,4g\nend\n", "3 Number"),
+        ("wire,4,4\nend\n", "3 Node"),
+        ("wire,0\nend\n", "3 Fields"),
+        ("tunnel,0,45\nend\n", "3 Fields"),
+        ("Tunnel,45\nend\n", "3 Kind"),
+        ("wire,0,45\nend\nwire,0,45\n", "5 AfterEnd"),
+    ];
+    for (rows, read) in cases {
+        let said = read_raw(rt.alloc(), rows)?;
+        assert_eq!(rt; said.as_str(), read, "{rows:?}");
     }
     Ok(())
 }
