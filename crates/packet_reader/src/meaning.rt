@@ -13,20 +13,20 @@ use std::alloc::Global;
 /// What the rows of a script mean.
 pub(crate) trait RowMeaning {
     /// What a row says.
-    type Event: Drop;
+    type Said: Drop;
 
-    ghost meaning: { Self → Meaning Self.Event };
+    ghost meaning: { Self → Meaning Self.Said };
 
     /// What a row says by itself: an event, or by `None` that the script ends.
     fn say(
         &self,
         alloc: Global,
         row: &ByteRecord,
-    ) -> Result<Result<Option<Self::Event>, Why>, OutOfMemory>
+    ) -> Result<Result<Option<Self::Said>, Why>, OutOfMemory>
         ensures { IfOk result (λ said. said ≡ (meaning self.now).says (fields_of row.now)) };
 
     /// Whether an event is a `sync`.
-    fn is_sync(&self, event: &Self::Event) -> bool
+    fn is_sync(&self, event: &Self::Said) -> bool
         ensures { result ≡ (meaning self.now).is_sync event.now };
 
     /// Whether `sync`s part the script into phases.
@@ -44,7 +44,7 @@ pub(crate) struct EventRows {
 impl RowMeaning for EventRows {
     ghost use Rattle.packet_reader.specs.Events.{events_in};
 
-    type Event = Event;
+    type Said = Event;
 
     ghost meaning = { λ rows. events_in rows.mode rows.shape };
 

@@ -27,7 +27,7 @@ pub(crate) fn read_rows<M: RowMeaning>(
     reader: &mut RowReader<'_>,
     begin_row: u32,
     meaning: &M,
-) -> Result<Vec<M::Event>, RowRefused>
+) -> Result<Vec<M::Said>, RowRefused>
     requires reading { IsReading reader.old }
     requires few { begin_row + length (rows_left reader.old) + 1 < 2 ^ 32 }
     ensures answers { Answers events_of named_row (script_of (M.meaning meaning.now) begin_row (rows_left reader.old)) result }
@@ -62,9 +62,9 @@ fn row_after<M: RowMeaning>(
     ended: bool,
     syncs: usize,
     row: &ByteRecord,
-) -> Result<Result<Option<M::Event>, Why>, OutOfMemory>
+) -> Result<Result<Option<M::Said>, Why>, OutOfMemory>
     requires { syncs < 2 ^ 32 }
-    ensures { (events : List M.Event) → syncs ≡ syncs_of (M.meaning meaning.now) events →
+    ensures { (events : List M.Said) → syncs ≡ syncs_of (M.meaning meaning.now) events →
         IfOk result (λ said. said ≡ row_after (M.meaning meaning.now) record { events = events; ended = ended } (fields_of row.now)) }
 {
     if ended {
@@ -82,9 +82,9 @@ fn row_after<M: RowMeaning>(
 /// Adds what a row says to events of which so many are `sync`, and tells how many then are.
 fn add<M: RowMeaning>(
     meaning: &M,
-    events: &mut Vec<M::Event>,
+    events: &mut Vec<M::Said>,
     syncs: usize,
-    said: Option<M::Event>,
+    said: Option<M::Said>,
 ) -> Result<usize, OutOfMemory>
     requires few { syncs < 2 ^ 32 }
     requires counted { syncs ≡ syncs_of (M.meaning meaning.now) events.old.items }

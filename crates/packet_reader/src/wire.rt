@@ -25,7 +25,7 @@ pub(crate) struct WireRows {
 impl RowMeaning for WireRows {
     ghost use Rattle.packet_reader.specs.Wire.{wire_events_in};
 
-    type Event = WireEvent;
+    type Said = WireEvent;
 
     ghost meaning = { λ rows. wire_events_in rows.shape };
 

@@ -12,7 +12,7 @@ returns-in-Err-clause-answers g c =
 pub rows-preserved : goal.rows-preserved
 rows-preserved g c =
     let meaning = g.M.RowMeaning.meaning c.args.meaning.now in
-    let so_far : Progress g.row.M-Event.Denot = record { events = c.rows.events.items; ended = c.rows.ended } in
+    let so_far : Progress g.row.M-Said.Denot = record { events = c.rows.events.items; ended = c.rows.ended } in
     let less = fewer meaning so_far c.rows.number _ _ _ _ _ c.in_ok-next_row.ensures.takes c.rows.invariant.said c.if-branch.true in
     let added = c.in_ok-syncs-in-Ok.ensures in
     let more = added.one_more in
