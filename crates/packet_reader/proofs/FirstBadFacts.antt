@@ -94,7 +94,7 @@ module _ {E : Type 0} (meaning : Meaning E) where
   say-more : (before : List Row) (events : List E) (row : Row) (event : E) → SayEvents meaning before events → meaning.says row ≡ Ok (Some event)
       → is_one_too_many meaning events event ≡ false → SayEvents meaning (before ++ row ∷ []) (events ++ event ∷ [])
   say-more before events row event said says fits = record {
-    each_says = map-append (meaning.says) before (row ∷ []) ∙ rw (said.each_says, says) (sym (map-append says_event events (event ∷ [])));
+    each_says = map-append meaning.says before (row ∷ []) ∙ rw (said.each_says, says) (sym (map-append says_event events (event ∷ [])));
     few_phases = few-more events event said.few_phases fits;
   }
 
@@ -154,7 +154,7 @@ module _ {E : Type 0} (meaning : Meaning E) where
         ap (λ k. Err (record { row = k; why = reason })) (sym row) ∙ ap (λ r. Err (record { row = bad.row; why = r })) (sym why)
 
     -- rows that say events are read to their end
-    read-events : (rest before : List Row) (done events : List E) (number : ℕ) → map (meaning.says) before ≡ map says_event events → HasFewPhases meaning (done ++ events)
+    read-events : (rest before : List Row) (done events : List E) (number : ℕ) → map meaning.says before ≡ map says_event events → HasFewPhases meaning (done ++ events)
         → script_from meaning (before ++ rest) (going_on done) number ≡ script_from meaning rest (going_on (done ++ events)) (number + length before)
     unfolding script_from
     read-events rest [] done [] number said few = rw (append-nil done, add-zero) refl
@@ -162,7 +162,7 @@ module _ {E : Type 0} (meaning : Meaning E) where
     read-events rest (row ∷ before) done [] number said few = cc said
     read-events rest (row ∷ before) done (event ∷ events) number said few =
         let says : meaning.says row ≡ Ok (Some event) = cc in
-        let others : map (meaning.says) before ≡ map says_event events = cc in
+        let others : map meaning.says before ≡ map says_event events = cc in
         rw (says, fits done event events few)
         (read-events rest before (done ++ event ∷ []) events (number + 1) others (rw (append_assoc done (event ∷ []) events) few)
         ∙ rw (append_assoc done (event ∷ []) events) (ap (script_from meaning rest (going_on (done ++ event ∷ events))) (omega arith)))

@@ -9,7 +9,7 @@ use Rattle.packet_reader.specs.Script.{script_of}
 
 -- a row for each of these events, and none breaks a rule
 pub record SayEvents {E : Type 0} (meaning : Meaning E) (before : List Row) (events : List E) : Type 0 where
-  pub each_says : map (meaning.says) before ≡ map (λ event. Ok (Some event)) events
+  pub each_says : map meaning.says before ≡ map (λ event. Ok (Some event)) events
   pub few_phases : HasFewPhases meaning events
 
 -- a row for each of these events, and then `end`
