@@ -25,7 +25,7 @@ pub struct InputRows {
 }
 
 /// Reads all rows of an input, whose script is of this mode. The fault is the first row that breaks a rule.
-#[tactic(auto, using(packet_reader::proofs::Forms::scripts_are_formed), unfolding(crate::specs::Input::input_in))]
+#[tactic(auto, unfolding(crate::specs::Input::input_in))]
 pub fn read_rows(alloc: Global, bytes: &[u8], mode: Mode) -> Result<InputRows, InputFault>
     requires { length bytes.now ≤ most_octets }
     ensures read { IfOk result (λ input. IsReadFrom mode bytes.now input.opening input.script.items) }
